@@ -28,9 +28,9 @@ static const char help[] =
     "run and trace also take --abort-at K [--undo N]: before step K + 1 the pointer is moved to main, and the\n"
     "routines that are live run their UNDO lists, the innermost first, in at most N steps (1,000 without --undo).\n"
     "\n"
-    "A listing has a line for each step: LINE:COLUMN or the offset, and behind it whatever people like to read; lines\n"
-    "that begin with ! are passed over. trace --places FILE writes one. With --binary it is four bytes a step, the\n"
-    "offset, low byte first.\n"
+    "A listing has four bytes for each step, its offset, low byte first; trace --places FILE writes one. Or it has a\n"
+    "line for each step, LINE:COLUMN or the offset, and behind it whatever people like to read; lines that begin with !\n"
+    "are passed over. trace --places --lines writes that form. mark reads both.\n"
     "\n"
     "FILE may be -, for standard input; each of several files gets the same options. Without options a run has\n"
     "10,000 steps, call depth 16, no input and room for 4,096 bytes of output, as the bench program has; a trace\n"
@@ -139,8 +139,8 @@ static void read_words(char **words, int takes_numbers) {
             asked.json = 1;
         else if (strcmp(*words, "--places") == 0)
             asked.places = 1;
-        else if (strcmp(*words, "--binary") == 0)
-            asked.binary = 1;
+        else if (strcmp(*words, "--lines") == 0)
+            asked.lines = 1;
         else if (!is_numbered(*words))
             give_up("no such option (see rapid --help)", *words);
         else if (!takes_numbers)
@@ -542,8 +542,8 @@ static void settle(int (*tell)(void)) {
         give_up("--steps: a trace shows at most 20,000 steps", NULL);
     if (asked.places && tell != trace)
         give_up("only trace takes", "--places");
-    if (asked.binary && !asked.places && tell != mark)
-        give_up("--binary is how mark reads a listing and trace --places writes one", NULL);
+    if (asked.lines && !asked.places)
+        give_up("--lines says how trace --places writes a listing", NULL);
     if (asked.aborts && (asked.places || tell == mark))
         give_up("a listing is that of a run without", "--abort-at");
     if (asked.places)

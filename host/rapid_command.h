@@ -9,7 +9,7 @@ enum { FINISHED = 0, REFUSED = 1, ENDED_OTHERWISE = 2, USAGE = 64 };
 struct asked {
     char **files;
     const char *listing; /* of mark */
-    int file_count, steps_given, json, aborts, undo_given, places, binary;
+    int file_count, steps_given, json, aborts, undo_given, places, lines;
     uint32_t steps, depth, abort_at, undo;
     size_t room, input_count;
 };

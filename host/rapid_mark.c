@@ -7,6 +7,7 @@
 #include <inttypes.h>
 #include <stdlib.h>
 #include <string.h>
+#include <unistd.h>
 
 /* ---- reading a listing */
 static struct {
@@ -24,10 +25,29 @@ static void take(uint32_t place) {
     theirs.places[theirs.count++] = place;
 }
 
+/* All bytes of a file; NULL where there are none. */
+static uint8_t *read_bytes(FILE *in, size_t *count) {
+    uint8_t *bytes = NULL;
+    for (size_t room = 0; !feof(in) && !ferror(in);) {
+        if (*count == room) {
+            room = room ? 2 * room : 4096;
+            bytes = realloc(bytes, room);
+            if (bytes == NULL)
+                give_up("there is no memory for the listing", NULL);
+        }
+        *count += fread(bytes + *count, 1, room - *count, in);
+    }
+    return bytes;
+}
+
+/* Whether they are lines: these begin with a character or a blank, and have no byte 0, which every place of a text has among its four bytes. */
+static int are_lines(const uint8_t *bytes, size_t count) {
+    return count > 0 && ((bytes[0] >= ' ' && bytes[0] <= '~') || strchr("\t\r\n", bytes[0]) != NULL) && memchr(bytes, 0, count) == NULL;
+}
+
 /* A part word at the end is left out. */
-static void read_binary(FILE *in) {
-    uint8_t bytes[4];
-    while (fread(bytes, 1, sizeof bytes, in) == sizeof bytes)
+static void take_bytes(const uint8_t *bytes, size_t count) {
+    for (; count >= 4; bytes += 4, count -= 4)
         take(bytes[0] | (uint32_t)bytes[1] << 8 | (uint32_t)bytes[2] << 16 | (uint32_t)bytes[3] << 24);
 }
 
@@ -79,14 +99,18 @@ static const char *read_line(const char *line) {
     return NULL;
 }
 
-static const char *read_lines(FILE *in) {
+static const char *read_lines(uint8_t *bytes, size_t count) {
     static char why[128];
     const char *wrong = NULL;
     char *line = NULL;
     size_t room = 0;
+    FILE *in = fmemopen(bytes, count, "r");
+    if (in == NULL)
+        return strerror(errno);
     for (size_t number = 1; wrong == NULL && getline(&line, &room, in) >= 0; number++)
         if ((wrong = read_line(line)) != NULL)
             snprintf(why, sizeof why, "line %zu: %s", number, wrong);
+    fclose(in);
     free(line);
     return wrong ? why : NULL;
 }
@@ -95,16 +119,19 @@ static const char *read_lines(FILE *in) {
 static const char *read_listing(void) {
     FILE *in = strcmp(asked.listing, "-") == 0 ? stdin : fopen(asked.listing, "rb");
     const char *why = NULL;
+    size_t count = 0;
     if (in == NULL)
         return strerror(errno);
-    if (asked.binary)
-        read_binary(in);
-    else
-        why = read_lines(in);
+    uint8_t *bytes = read_bytes(in, &count);
     if (ferror(in))
         why = strerror(errno);
+    else if (are_lines(bytes, count))
+        why = read_lines(bytes, count);
+    else
+        take_bytes(bytes, count);
     if (in != stdin)
         fclose(in);
+    free(bytes);
     return why;
 }
 
@@ -200,6 +227,8 @@ void settle_places(void) {
         give_up("--places is a listing of its own, and takes no", "--json");
     if (asked.steps > MOST_PLACES)
         give_up("--steps: a listing has at most 1,000,000 steps", NULL);
+    if (!asked.lines && isatty(STDOUT_FILENO))
+        give_up("four bytes a step are not for a terminal; --lines shows them", NULL);
 }
 
 /* Few places are looked up often. */
@@ -220,7 +249,7 @@ static void write_place(uint32_t offset) {
     putchar('\n');
 }
 
-static void write_binary(uint32_t offset) {
+static void write_bytes(uint32_t offset) {
     for (int i = 0; i < 4; i++)
         putchar((int)(offset >> 8 * i & 255));
 }
@@ -232,9 +261,9 @@ int trace_places(void) {
     if (!rapid_places(&lent, places, &r))
         give_up("the bench did not answer", NULL);
     for (size_t i = 0; i < r.steps; i++)
-        if (asked.binary)
-            write_binary(places[i]);
-        else
+        if (asked.lines)
             write_place(places[i]);
+        else
+            write_bytes(places[i]);
     return r.ending == RAPID_RETURNED ? FINISHED : ENDED_OTHERWISE;
 }
