@@ -1,5 +1,7 @@
 // The word at a place, for the pendant, whose screen program is written in C. It is a library of its own beside the listing: the reader is compiled into
 // each loop that reads, which a compiler does only where a library has one such loop.
+#![tactic(auto)]
+
 ghost use Rattle.call_asking.specs.Asking.{Told};
 
 use text_words::part_at;

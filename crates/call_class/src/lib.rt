@@ -1,4 +1,6 @@
 // A whole class in one call: each module as the single call has it, one behind another.
+#![tactic(auto)]
+
 ghost use Rattle.std.specs.Prelude.{◌≡◌, ◌||◌, ◌*◌, ◌+◌, ◌≤◌, eqb, length, take};
 ghost use Rattle.laws.specs.Lists.{replaced};
 ghost use Rattle.paper.specs.Undoing.{plainly};

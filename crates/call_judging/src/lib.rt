@@ -1,4 +1,6 @@
 // The text of a call judged: checked, and refused or carried out.
+#![tactic(auto)]
+
 ghost use Rattle.std.specs.Prelude.{◌<◌, ◌≤◌};
 ghost use Rattle.paper.specs.Answer.{depth_limit, verdict, carried_out};
 ghost use Rattle.call_records.specs.Leaves.{Rooms, Tells};

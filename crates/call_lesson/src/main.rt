@@ -1,4 +1,6 @@
 // The bench program of the paper: reads a module text from standard input, carries it out, prints the output and then the eight fields of the record.
+#![tactic(auto)]
+
 ghost use Rattle.std.specs.Prelude.{◌≤◌, length};
 ghost use Rattle.call_lesson.specs.Bench.{text_room, Benched};
 

@@ -1,4 +1,6 @@
 // The listing for the pendant, whose screen program is written in C: numbers and byte slices only. Numbers are written as four bytes, low byte first.
+#![tactic(auto)]
+
 ghost use Rattle.std.specs.Prelude.{◌≡◌, ◌+◌, ◌*◌, ◌%◌, ◌≤◌, length};
 ghost use Rattle.paper.specs.Words.{kind_of};
 ghost use Rattle.call_listing.specs.Listing.{kind_number, entered, listed_of, three_put, Listed·all, Exported};

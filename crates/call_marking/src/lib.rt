@@ -1,4 +1,6 @@
 // Another simulator's listing marked: the whole call, numbers and byte slices only.
+#![tactic(auto)]
+
 ghost use Rattle.std.specs.Prelude.{◌<◌, ◌≤◌, length};
 ghost use Rattle.paper.specs.Answer.{depth_limit};
 ghost use Rattle.marks.specs.Marks.{mark_size};

@@ -1,4 +1,6 @@
 // The whole call, as the pendant makes it: numbers and byte slices only.
+#![tactic(auto)]
+
 ghost use Rattle.paper.specs.Undoing.{plainly};
 ghost use Rattle.call_judging.specs.Carries.{asked_by};
 ghost use Rattle.call_pendant.specs.Calls.{lent, Calls, until, FlaggedCalls};

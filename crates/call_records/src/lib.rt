@@ -1,4 +1,6 @@
 // What a call leaves: the record, and the stores with all but a module's words cleared.
+#![tactic(auto)]
+
 ghost use Rattle.std.specs.Prelude.{◌≡◌, ◌||◌, ◌+◌, ◌*◌, ◌≤◌, eqb, ltb, length};
 ghost use Rattle.layout.specs.Named.{store_bytes};
 ghost use Rattle.layout.specs.Parts.{half_part};

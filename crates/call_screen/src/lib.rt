@@ -1,4 +1,6 @@
 // What the bench programs print of a call: the output, then the eight fields of the record.
+#![tactic(auto)]
+
 ghost use Rattle.std.specs.Prelude.{◌≡◌, [], ◌+◌, ◌≤◌, length};
 ghost use Rattle.paper.specs.Undoing.{plainly};
 ghost use Rattle.paper.specs.Answer.{record_size};

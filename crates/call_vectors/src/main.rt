@@ -2,6 +2,8 @@
 // cases and says what must be printed.
 //
 // A case is a line of seven numbers, then its inputs, a line each, then its text and a line end. A number has ten digits and a byte behind them.
+#![tactic(auto)]
+
 ghost use Rattle.std.specs.Prelude.{◌+◌, ◌*◌, ◌≤◌, ◌<◌, length};
 ghost use Rattle.call_vectors.specs.Cases.{Lends, Asks};
 

@@ -1,4 +1,6 @@
 // Statements that hold lists, but for the lists: the head of a FOR, the values of a CASE, and what is written over the words that open and close a WHILE, a FOR, an arm of an IF.
+#![tactic(auto)]
+
 ghost use Rattle.paper.specs.Words.{word_limit};
 ghost use Rattle.check_names.specs.Promises.{store_bytes};
 ghost use Rattle.std.specs.Prelude.{◌+◌, ◌*◌, ◌<◌, ◌≤◌, length};

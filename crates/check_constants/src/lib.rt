@@ -1,4 +1,6 @@
 // Constant expressions: checked as any expression is, and worked out from the words that constants have so far.
+#![tactic(auto)]
+
 ghost use Rattle.std.specs.Prelude.{◌≡◌};
 ghost use Rattle.check_constants.specs.Answers.{InNum, HeldAs, Asks, Values, Sizes};
 ghost use Rattle.layout.specs.Types.{IsType};

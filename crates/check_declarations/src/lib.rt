@@ -1,4 +1,6 @@
 // Declarations: what the data of the module, and of a routine, make known.
+#![tactic(auto)]
+
 ghost use Rattle.std.specs.Prelude.{◌≡◌, ◌<◌};
 ghost use Rattle.layout.specs.Parts.{link_part};
 ghost use Rattle.check_names.specs.Scopes.{Stays};

@@ -1,4 +1,6 @@
 // The check of an expression: names, types and links, by precedence climbing over the words of the code store in place.
+#![tactic(auto)]
+
 ghost use Rattle.std.specs.Prelude.{◌≡◌, ◌+◌, ◌-◌, ◌*◌, ◌<◌, ◌≤◌, length};
 ghost use Rattle.paper.specs.Expressions.{disjunctions, level_of};
 ghost use Rattle.paper.specs.Words.{word_limit};

@@ -1,5 +1,7 @@
 // The checker's second pass: whether the words of a text form a module, read by their sorts from the first on. What is refused first is answered, by its
 // number and the index of its word: 8, a word that no well-formed module could have there, or 9, nesting 17.
+#![tactic(auto)]
+
 ghost use Rattle.std.specs.Prelude.{◌≡◌, suc, ◌<◌};
 ghost use Rattle.paper.specs.Expressions.{level_of, starts_simple};
 ghost use Rattle.check_form.specs.Places.{Lent, sorts_in, ◌▸◌, ◌▹◌, word, type_word, expression_in, expression, expressions, arguments, optional};

@@ -1,4 +1,6 @@
 // Leaving a routine: its names mean again what they meant before it.
+#![tactic(auto)]
+
 ghost use Rattle.check_leaving.specs.Answers.{Leaving, Leaves};
 ghost use Rattle.check_leaving.specs.Parts.{ParametersKept, LeavesParameters, DataKept, LeavesData};
 

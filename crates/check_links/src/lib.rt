@@ -1,4 +1,6 @@
 // From the last word to the first: what leads to a word that only closes a list leads on to where that list goes on.
+#![tactic(auto)]
+
 ghost use Rattle.std.specs.Prelude.{◌≡◌, true, ◌+◌, ◌*◌, ◌<◌, ◌≤◌, length};
 ghost use Rattle.check_links.specs.Resolved.{step_by_link, goes_by_link, goes_by_value, goes_by_place, Beyond, LedValue, LedPlace, LedLink, Turned, Resolved};
 

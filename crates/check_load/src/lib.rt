@@ -1,4 +1,6 @@
 // The checker's first pass: the words of a text go into the code store, two cells each, and names get their numbers.
+#![tactic(auto)]
+
 ghost use Rattle.std.specs.Prelude.{◌≡◌, ◌+◌, ◌*◌, ◌<◌, ◌≤◌, length};
 ghost use Rattle.check_names.specs.Promises.{store_bytes};
 ghost use Rattle.check_load.specs.Layout.{Chain, Finds, Loading, NameComes, Comes, Goes, Valued, value_of};

@@ -1,4 +1,6 @@
 // Names: all names of one spelling have one number, and a table in the value store says what each number means.
+#![tactic(auto)]
+
 ghost use Rattle.std.specs.Prelude.{◌≡◌, ◌+◌, ◌*◌, ◌<◌, ◌≤◌, length};
 ghost use Rattle.code.specs.Cells.{value_in};
 ghost use Rattle.check_names.specs.Promises.{Number, Meant, Declared, Links, Left, Protects, TypeOf, TypeNamed, store_bytes};
@@ -113,7 +115,7 @@ pub fn value_of(m: u32) -> u32
 
 // A scope: how far it is filled, and which names it opened. It goes in by value, and what fills, enters or leaves it hands the new state back. What its names mean does not fit
 // a struct, and stands in lent cells.
-#[derive(Drop)]
+#[derive(Clone, Copy)]
 pub struct Scope {
     // the words of its data
     pub used: u32,

@@ -1,4 +1,6 @@
 // The parameters of a routine: what they make known.
+#![tactic(auto)]
+
 ghost use Rattle.std.specs.Prelude.{◌≡◌};
 ghost use Rattle.check_parameters.specs.Answers.{ParametersStand, DeclaresParameters, Unopened, Opens};
 ghost use Rattle.check_parameters.specs.Parts.{ParameterBegins, DeclaresParameter};

@@ -1,5 +1,7 @@
 // The check of a routine: its name, parameters, data, list, ERROR list and UNDO list. What a run has to know of it is written over its words in the code store; when its scope is left the table
 // of meanings says again what names mean in the module.
+#![tactic(auto)]
+
 ghost use Rattle.paper.specs.Words.{word_limit};
 ghost use Rattle.paper.specs.Checks.{the_body};
 ghost use Rattle.layout.specs.Parts.{link_part};

@@ -1,4 +1,6 @@
 // The check of a simple statement: its names, its types, its place, and what a run has to know of it, written over its words in the code store.
+#![tactic(auto)]
+
 ghost use Rattle.std.specs.Prelude.{◌≡◌, ◌+◌, ◌*◌, ◌/◌, ◌%◌, ◌<◌, ◌≤◌, length};
 ghost use Rattle.paper.specs.Sorts.{NAME, RETURN, RAISE, TPWRITE, TPREADNUM};
 ghost use Rattle.paper.specs.Words.{word_limit};

@@ -1,4 +1,6 @@
 // The two scopes that data are declared in: whether a name can be declared in one, and a name and its words as they become known there.
+#![tactic(auto)]
+
 ghost use Rattle.std.specs.Prelude.{◌+◌, ◌*◌, ◌<◌, ◌≤◌, length};
 ghost use Rattle.layout.specs.Parts.{link_part};
 ghost use Rattle.check_names.specs.Promises.{store_bytes};

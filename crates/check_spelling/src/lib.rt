@@ -1,4 +1,6 @@
 // Names by their spelling, letter case folded.
+#![tactic(auto)]
+
 ghost use Rattle.std.specs.Prelude.{◌≡◌, map, ◌+◌, ◌*◌, ◌%◌, ◌<◌, ◌≤◌, eqb, length};
 ghost use Rattle.paper.specs.Sorts.{folded, equal_texts};
 ghost use Rattle.check_names.specs.Meanings.{protected_cell};

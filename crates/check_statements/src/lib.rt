@@ -1,5 +1,7 @@
 // The check of statements in lists: what a run has to know of them is written over their words in the code store. Links lead to the next word as it stands in the text; crate links makes
 // steps of them.
+#![tactic(auto)]
+
 ghost use Rattle.std.specs.Prelude.{◌≡◌, ◌+◌};
 ghost use Rattle.paper.specs.Sorts.{IF, FOR, WHILE, TEST};
 ghost use Rattle.paper.specs.Expressions.{starts_statement};

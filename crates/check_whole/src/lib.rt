@@ -1,4 +1,6 @@
 // The checker: from a text to a code store that is ready to run, or the first rule broken and its place.
+#![tactic(auto)]
+
 ghost use Rattle.std.specs.Prelude.{◌≡◌};
 ghost use Rattle.paper.specs.Answer.{verdict};
 ghost use Rattle.check_names.specs.Scopes.{BackTo};

@@ -1,1 +1,2 @@
 // What the two stores hold between check and run: see specs/. Nothing here runs.
+#![tactic(auto)]

@@ -1,1 +1,2 @@
 // The demands on the bench as theorems about the paper: see specs/. Nothing here runs.
+#![tactic(auto)]

@@ -1,4 +1,6 @@
 // One whole step of a run, on the stores and a small machine: how the run goes on, or how it has ended. A run is a loop over it.
+#![tactic(auto)]
+
 ghost use Rattle.std.specs.Prelude.{◌≡◌, ◌%◌, length, true, false};
 ghost use Rattle.store_cells.specs.Cells.{cells_of};
 ghost use Rattle.code.specs.Cells.{place_at};
@@ -13,7 +15,7 @@ use run_undoing::leave;
 use store_reading::place;
 
 // Where a run stands: the next step of its newest call, and that call's window.
-#[derive(Drop)]
+#[derive(Clone, Copy)]
 pub struct Machine {
     pub next: usize,
     pub base: usize,

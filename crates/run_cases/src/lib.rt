@@ -1,4 +1,6 @@
 // TEST and its cases.
+#![tactic(auto)]
+
 ghost use Rattle.std.specs.Int.{w32};
 ghost use Rattle.std.proofs.Common.{SFits};
 ghost use Rattle.code.specs.Steps.{a_test};

@@ -1,4 +1,6 @@
 // IF, WHILE and RAISE: what decides where a run goes on.
+#![tactic(auto)]
+
 ghost use Rattle.code.specs.Steps.{a_raise_of, a_compact_if, an_if, a_while};
 ghost use Rattle.run_machine.specs.Machine.{Here, Performs, Says};
 

@@ -1,4 +1,6 @@
 // Whole numbers in plain decimal, written into a lent slice.
+#![tactic(auto)]
+
 ghost use Rattle.std.specs.Prelude.{◌≡◌, ◌∷◌, ◌++◌, ◌+◌, ◌≤◌, length, drop};
 ghost use Rattle.paper.specs.Numbers.{digits, decimal};
 ghost use Rattle.run_decimals.specs.Placed.{Takes, PutsNumber};

@@ -1,4 +1,6 @@
 // Errors: which call takes one.
+#![tactic(auto)]
+
 ghost use Rattle.std.specs.Prelude.{◌≡◌};
 ghost use Rattle.run_machine.specs.Machine.{Here};
 ghost use Rattle.run_errors.specs.Errors.{HasRoutine, handler_at, Nearest, Unwound, Raises, Arisen};

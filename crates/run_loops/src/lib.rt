@@ -1,4 +1,6 @@
 // FOR and ENDFOR.
+#![tactic(auto)]
+
 ghost use Rattle.std.specs.Prelude.{◌≡◌};
 ghost use Rattle.paper.specs.Running as running;
 ghost use Rattle.code.specs.Steps.{a_for, a_for_test};

@@ -1,4 +1,6 @@
 // A run beside a listing that was made elsewhere: how it ends, and how much of the listing is that of its own counted steps.
+#![tactic(auto)]
+
 ghost use Rattle.std.specs.Prelude.{◌≡◌, ◌<◌};
 ghost use Rattle.run_machine.specs.Machine.{Steps};
 ghost use Rattle.run_whole.specs.Runs.{Begins};

@@ -1,4 +1,6 @@
 // RETRY and TRYNEXT: how a run goes on after an error.
+#![tactic(auto)]
+
 ghost use Rattle.std.specs.Prelude.{◌≡◌, ◌+◌, ◌*◌, ◌≤◌, length};
 ghost use Rattle.store_cells.specs.Cells.{cells_of};
 ghost use Rattle.code.specs.Cells.{op_at};

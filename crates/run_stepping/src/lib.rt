@@ -1,4 +1,6 @@
 // One step of the machine, by the op of its word.
+#![tactic(auto)]
+
 ghost use Rattle.run_machine.specs.Machine.{Steps, Stepped};
 
 use layout::{answers, ops, parts};

@@ -1,4 +1,6 @@
 // Where a target is, and what is stored there.
+#![tactic(auto)]
+
 ghost use Rattle.store_cells.specs.Cells.{cells_of};
 ghost use Rattle.code.specs.Steps.{a_target};
 ghost use Rattle.store_evaluation.specs.Answers.{Stores};

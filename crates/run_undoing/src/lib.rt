@@ -1,4 +1,6 @@
 // UNDO lists: whose is next as the calls of an aborted run are dropped.
+#![tactic(auto)]
+
 ghost use Rattle.std.specs.Prelude.{◌≡◌};
 ghost use Rattle.run_errors.specs.Errors.{HasRoutine};
 ghost use Rattle.run_undoing.specs.Dropping.{undo_at, Stands, Dropped, Quits, Notes, Noted, Left};

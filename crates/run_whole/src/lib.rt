@@ -1,4 +1,6 @@
 // A run: the machine goes from step to step over the code store. One that is aborted goes on with its UNDO lists.
+#![tactic(auto)]
+
 ghost use Rattle.std.specs.Prelude.{◌≡◌, ◌-◌, ◌<◌, ◌≤◌};
 ghost use Rattle.code.specs.Cells.{window_of};
 ghost use Rattle.run_machine.specs.Machine.{depth_limit, Steps};
@@ -13,7 +15,7 @@ use run_undoing::drop_to;
 use store_reading::{link, place};
 
 // Whether a run is aborted: the step K that it is aborted at, and how many steps its UNDO lists may take.
-#[derive(Drop)]
+#[derive(Clone, Copy)]
 pub enum Abort {
     Never,
     At(u32, u32),

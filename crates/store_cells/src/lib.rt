@@ -1,4 +1,6 @@
 // Cells of 32 bits in lent bytes, four each, and fields of 64 bits, eight each: low byte first.
+#![tactic(auto)]
+
 ghost use Rattle.std.specs.Prelude.{◌≡◌, ◌+◌, ◌*◌, ◌<◌, ◌≤◌, length};
 ghost use Rattle.store_cells.specs.Cells.{Got, Put, Cleared, PutField};
 

@@ -1,4 +1,6 @@
 // What an expression is worth, worked out from the linked words of the code store in place.
+#![tactic(auto)]
+
 ghost use Rattle.std.specs.Prelude.{◌≡◌, true, ◌+◌, ◌<◌, pos};
 ghost use Rattle.std.specs.Int.Signed.{lt_z, quot_z, rem_z};
 ghost use Rattle.std.specs.Int.{w32};

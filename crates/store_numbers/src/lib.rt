@@ -2,6 +2,8 @@
 // ends of the range. A result that leaves 64 bits lies outside every such range, so it is an overflow.
 // No other crate calls num_range, ranged, add, subtract, multiply, minus, divide, modulo and compare yet: `store_evaluation` works num out in 64 bits and tests the
 // result once. They wait for dnum (request 8), whose products leave 64 bits (D57).
+#![tactic(auto)]
+
 ghost use Rattle.std.specs.Prelude.{◌≡◌, ◌+ℤ◌, ◌-ℤ◌, ◌*ℤ◌};
 ghost use Rattle.store_numbers.specs.Answers.{NumRange, error_numbers, Held, Sum, Difference, Product, Opposite, Quotient, Remainder, Size, Compared, NumberOf, WordOf};
 ghost use Rattle.store_numbers.specs.Inner.{fits64, Limit};

@@ -1,4 +1,6 @@
 // The words of the code store, two cells each, written by their parts.
+#![tactic(auto)]
+
 ghost use Rattle.std.specs.Prelude.{◌≡◌, ◌+◌, ◌*◌, ◌<◌, ◌≤◌, length};
 ghost use Rattle.store_cells.specs.Cells.{cells_of, Put};
 ghost use Rattle.code.specs.Cells.{op_at, link_at};

@@ -1,5 +1,7 @@
 // Where a word of a text starts, by its index. A module that is refused is read again up to the word that it is refused at, so that the check need not keep
 // every word's offset.
+#![tactic(auto)]
+
 ghost use Rattle.text_offsets.specs.Offsets.{Offset};
 
 use text_words::{Cursor, Step};

@@ -1,5 +1,7 @@
 // Names, and reserved words, told from them by length and first letter. Letter case is folded once, where a byte is read, and the letters behind the first
 // are one number, so that they are compared at once.
+#![tactic(auto)]
+
 pub mod classes;
 mod lengths;
 mod words;

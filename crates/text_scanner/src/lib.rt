@@ -1,4 +1,6 @@
 // One word at the front of a text, and what lies between words.
+#![tactic(auto)]
+
 mod classes;
 mod name;
 mod number;

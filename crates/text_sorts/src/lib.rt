@@ -1,4 +1,6 @@
 // The sorts of words by name. A constant has no name in antt, so one function tells them all, and its contract ties them to the paper.
+#![tactic(auto)]
+
 ghost use Rattle.std.specs.Prelude.{◌≡◌};
 ghost use Rattle.paper.specs.Expressions.{starts_data, starts_routine};
 ghost use Rattle.text_sorts.specs.Named.{named};

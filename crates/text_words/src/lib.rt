@@ -1,10 +1,12 @@
 // The words of a text, read one after another from the first byte, and the word that starts at a place.
+#![tactic(auto)]
+
 ghost use Rattle.text_words.specs.Answers.{Refuses, RefusedAt, Here, Started, Stepped, FoundAt, PartAt};
 
 use layout::{limits, rules};
 use text_scanner::{Gap, Scan, scan_word, skip_gap};
 
-#[derive(Drop)]
+#[derive(Clone, Copy)]
 pub struct Word {
     pub sort: u32,
     pub place: usize,
