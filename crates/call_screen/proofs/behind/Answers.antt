@@ -1,0 +1,9 @@
+use borrow.Author.Rules.{rules}
+use Rattle.call_screen.proofs.Lines.{behind-last, behind-other}
+use Rattle.call_screen.proofs.behind.Goals as goal
+
+pub returns-then-k-eq-LAST : goal.returns-then-k-eq-LAST
+returns-then-k-eq-LAST c = search (rules, behind-last)
+
+pub returns : goal.returns
+returns c = search (rules, behind-other)

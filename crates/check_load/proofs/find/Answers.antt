@@ -1,0 +1,18 @@
+use Rattle.check_load.proofs.Chains.{seeks-start, seeks-found, seeks-less, seeks-on, seeks-none}
+use borrow.Author.Rules.{rules}
+use Rattle.check_load.proofs.find.Goals as goal
+
+pub loop-j-init : goal.loop-j-init
+loop-j-init c = search (rules, seeks-start)
+
+pub returns-then-same : goal.returns-then-same
+returns-then-same c = search (rules, seeks-found)
+
+pub loop-j-smaller : goal.loop-j-smaller
+loop-j-smaller c = search (rules, seeks-less)
+
+pub loop-j-preserved : goal.loop-j-preserved
+loop-j-preserved c = search (rules, seeks-on)
+
+pub returns : goal.returns
+returns c = search (rules, seeks-none)

@@ -1,0 +1,9 @@
+use Rattle.check_spelling.proofs.Letters.{alike-equal, alike-folded}
+use borrow.Author.Rules.{rules}
+use Rattle.check_spelling.proofs.alike.Goals as goal
+
+pub returns-then-a-b : goal.returns-then-a-b
+returns-then-a-b c = search (rules, alike-equal)
+
+pub returns : goal.returns
+returns c = search (rules, alike-folded)

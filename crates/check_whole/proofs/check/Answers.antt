@@ -1,0 +1,21 @@
+use Rattle.check_whole.proofs.LentStores.{code-small, values-small, counted, parts_whole, checked-parts}
+use borrow.Author.Rules.{rules}
+use Rattle.check_whole.proofs.check.Goals as goal
+
+pub returns-then-code-lt-STORE_BYTES : goal.returns-then-code-lt-STORE_BYTES
+returns-then-code-lt-STORE_BYTES c = search (rules, code-small)
+
+pub returns-then-values-lt-STORE_BYTES : goal.returns-then-values-lt-STORE_BYTES
+returns-then-values-lt-STORE_BYTES c = search (rules, values-small)
+
+pub slice_bounds-check_cells-end-2 : goal.slice_bounds-check_cells-end-2
+slice_bounds-check_cells-end-2 c = search (rules, counted)
+
+pub slice_bounds-check_cells-end-4 : goal.slice_bounds-check_cells-end-4
+slice_bounds-check_cells-end-4 c = search (rules, counted)
+
+pub check_cells-requires : goal.check_cells-requires
+check_cells-requires c = search (rules, parts_whole)
+
+pub returns : goal.returns
+returns c = search (rules, checked-parts)

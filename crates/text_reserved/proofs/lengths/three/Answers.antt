@@ -1,0 +1,8 @@
+use Rattle.paper.specs.Sorts.{bytes}
+use Rattle.text_reserved.specs.Keys.{look, of, row, table}
+use Rattle.text_reserved.proofs.Rows.{no-letter}
+use Rattle.text_reserved.proofs.lengths.three.Goals as goal
+
+pub returns-in_default : goal.returns-in_default
+unfolding look table of row bytes
+returns-in_default c = no-letter 3 _ _ c.in_default.rest

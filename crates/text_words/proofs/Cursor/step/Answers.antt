@@ -1,0 +1,12 @@
+use Rattle.text_words.proofs.Cases.{step-long, step-here, step-bad}
+use borrow.Author.Rules.{rules}
+use Rattle.text_words.proofs.Cursor.step.Goals as goal
+
+pub returns-then-text-gt-TEXT : goal.returns-then-text-gt-TEXT
+returns-then-text-gt-TEXT c = search (rules, step-long)
+
+pub returns-in-UpTo : goal.returns-in-UpTo
+returns-in-UpTo c = search (rules, step-here)
+
+pub returns-in-BadByte : goal.returns-in-BadByte
+returns-in-BadByte c = search (rules, step-bad)
