@@ -39,7 +39,7 @@ module _ (x : ℕ) (h : 2147483648 ≤ x) (s : Fits w32 x) where
       (sub_cases (λ v. of_z w32 v ≡ x) x 4294967296 (λ g. omega arith) (λ g. absurd (omega (arith, s.fits))))
 
 -- bits z that are the word's, read with a sign
-module _ (x z : ℕ) (s : Fits w32 x) (e : z ≡ x) where
+module _ (x z : ℕ) (s : Fits w32 x) (e : to_z w32 z ≡ to_z w32 x) where
   number_fits : SFits w64 (to_z w32 x)
   number_fits = widened (to_z w32 x) (to_z-Fits w32 x s)
 

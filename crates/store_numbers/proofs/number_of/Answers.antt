@@ -1,20 +1,20 @@
-use mathlib.Core.Path.{◌≡◌, ◌∙◌}
-use mathlib.Core.Logic.{⊎_elim}
-use Rattle.store_numbers.proofs.Complement.{word-less, high_fits, high_bits, word_wide, word_number}
+use mathlib.Core.Path.{◌≡◌, ap, ◌∙◌}
+use mir.Syntax.{w32}
+use mir.Val.{to_z}
 use borrow.Author.Rules.{rules}
-use Rattle.store_numbers.proofs.number_of.Reads as reads
-use Rattle.store_numbers.proofs.number_of.Lts as lts
+use Rattle.store_numbers.proofs.Complement.{word-less, high_fits, high_bits, word_wide, word_number}
 use Rattle.store_numbers.proofs.number_of.Goals as goal
-
--- by either way z has the word's bits
-same : (c : lts.Joined1 reads.Pre reads.Post) → c.if1.z ≡ c.before.args.x
-same c = ⊎_elim (λ w. w.1) (λ w. w.1 ∙ high_bits _ w.0.left c.before.ranges.x) c.if1.branch
+use Rattle.store_numbers.proofs.number_of.Goals.{then-x-lt-FIRST_BELOW, else-x-lt-FIRST_BELOW}
 
 pub overflow_sub-z : goal.overflow_sub-z
 overflow_sub-z c = search (rules, word-less)
 
 pub overflow_cast-z-else-x-lt-FIRST_BELOW-2 : goal.overflow_cast-z-else-x-lt-FIRST_BELOW-2
 overflow_cast-z-else-x-lt-FIRST_BELOW-2 c = search (rules, high_fits)
+
+-- by either way z has the word's bits
+same : (c : goal.Joined-x-lt-FIRST_BELOW) → to_z w32 c.if-x-lt-FIRST_BELOW.z-bits ≡ to_z w32 c.args.x
+same c = elim c.if-x-lt-FIRST_BELOW.branch [ then-x-lt-FIRST_BELOW w ↦ w.z-is | else-x-lt-FIRST_BELOW w ↦ w.z-is ∙ ap (to_z w32) (high_bits _ w.if-x-lt-FIRST_BELOW.false c.ranges.x) ]
 
 pub overflow_cast-result : goal.overflow_cast-result
 overflow_cast-result c = word_wide _ _ c.ranges.x (same c)
