@@ -18,6 +18,6 @@ loads k n h e z s q = rw (to_z-of_z s) (record { is = q ∙ ap (to_z w32) e; sma
 
 pub stores : (before after : List ℕ) (i : ℕ) (v : ℤ) → i * 4 + 4 ≤ length before → SFits w32 v → (x : ℕ) → x ≡ of_z w32 (to_z w32 (of_z w32 (read v))) → Put before after i x → Stored before after i v
 stores before after i v h s x e p = record {
-  words = p.words ∙ ap (set (cells_of before) i) (e ∙ ap (λ (z : ℤ). of_z w32 (to_z w32 (of_z w32 z))) (to_z-of_z (sfits_widen tt s)) ∙ ap (of_z w32) (to_z-of_z s));
+  words = p.words ∙ ap (set (cells_of before) i) (e ∙ ap (λ (z : ℤ). of_z w32 (to_z w32 (of_z w32 z))) (to_z-of_z (sfits_widen {w = w32} {w' = w64} tt s)) ∙ ap (of_z w32) (to_z-of_z s));
   long = put-length p h;
 }
