@@ -1,4 +1,4 @@
-use Rattle.store_evaluation.proofs.Numbers.{divided-none, minus-fits, quot-minus, quot-wide, quot-done}
+use Rattle.store_evaluation.proofs.Numbers.{divided-none, minus-fits, divisor-ok, quot-minus, quot-wide, quot-done}
 use borrow.Author.Rules.{rules}
 use Rattle.store_evaluation.proofs.quotient.Goals as goal
 
@@ -16,3 +16,6 @@ overflow_cast-result-3 c = search (rules, quot-wide)
 
 pub returns : goal.returns
 returns c = search (rules, quot-done)
+
+pub nonzero_div-result : goal.nonzero_div-result
+nonzero_div-result c = divisor-ok _ _ c.ranges.a c.ranges.b c.requires.0 c.requires.1 c.is_zero.result c.is_zero.ensures c.if-is_zero.false c.if-b-eqminus1.false

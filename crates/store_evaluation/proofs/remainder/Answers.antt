@@ -1,4 +1,4 @@
-use Rattle.store_evaluation.proofs.Numbers.{divided-none, rem-minus, rem_wide, rem-done}
+use Rattle.store_evaluation.proofs.Numbers.{divisor-ok, divided-none, rem-minus, rem_wide, rem-done}
 use borrow.Author.Rules.{rules}
 use Rattle.store_evaluation.proofs.remainder.Goals as goal
 
@@ -13,3 +13,6 @@ overflow_cast-result-3 c = search (rules, rem_wide)
 
 pub returns : goal.returns
 returns c = search (rules, rem-done)
+
+pub nonzero_rem-result : goal.nonzero_rem-result
+nonzero_rem-result c = divisor-ok _ _ c.ranges.a c.ranges.b c.requires.0 c.requires.1 c.is_zero.result c.is_zero.ensures c.if-is_zero.false c.if-b-eqminus1.false
