@@ -14,6 +14,9 @@ value-bytes-requires c = search (rules, string-there)
 pub slice_bounds-copy-start : goal.slice_bounds-copy-start
 slice_bounds-copy-start c = search (rules, string-in)
 
+pub slice_bounds-copy-count : goal.slice_bounds-copy-count
+slice_bounds-copy-count c = search (rules, string-in)
+
 pub copy-requires : goal.copy-requires
 copy-requires c = search (rules, string-spelled)
 
