@@ -32,6 +32,7 @@ all_map f (h also r) = f _ h also all_map f r
 
 -- what holds of each holds of one among them
 pub one-among : {A : Type 0} (Q : A → Type 0) {a : A} {l : List A} → All Q l → Among a l → Q a
+one-among Q nothing m = elim m [ ]
 one-among Q (h also r) here = h
 one-among Q (h also r) (there m) = one-among Q r m
 

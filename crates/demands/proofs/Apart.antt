@@ -32,6 +32,7 @@ between no-step-left = nothing
 between (one-step low high r) = (low, high) also between r
 
 named-between : {a b i : ℕ} (l : List Step) → Between a b l → Known l i → (a ≤ i) × (i < b)
+named-between [] h m = elim m [ ]
 named-between (s ∷ l) (h also r) here = h
 named-between (s ∷ l) (h also r) (there k) = named-between l r k
 

@@ -228,7 +228,7 @@ module _ (W : List Word) where
   routine-names-ranked earlier k [] h = nothing
   routine-names-ranked earlier k (r ∷ rs) h =
       let w = (first_of h).name in
-      if-ranked W _ 10 r.name (tt, tt) w and if-ranked W _ 16 r.name (tt, tt) w and routine-names-ranked _ (suc k) rs (rest_of h)
+      if-ranked W _ 10 r.name (tt, tt) w and if-ranked W _ 16 r.name (tt, tt) w and routine-names-ranked (spelled W r.name ∷ earlier) (suc k) rs (rest_of h)
 
   -- ---- statements
   scalar-ranked : (m : Meaning) (i : ℕ) → IsWord W i → Ranked W (judge_scalar_target m i).faults

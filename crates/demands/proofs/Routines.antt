@@ -92,7 +92,7 @@ module _ (n : ℕ) where
   routine-names-in W earlier k (r ∷ rs) h =
       forked NamesIn (cannot_declare earlier (spelled W r.name)) _ _
       (routine-names-in W earlier (suc k) rs (omega arith))
-      (lower also routine-names-in W _ (suc k) rs (omega arith))
+      (lower also routine-names-in W (spelled W r.name ∷ earlier) (suc k) rs (omega arith))
     where
       lower : k < n
       lower = omega arith

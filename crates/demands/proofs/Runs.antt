@@ -160,6 +160,8 @@ module _ (P : Program) (R R' : Rooms) (more : RoomsAtLeast R R') where
   pub abort-more : (n m : ℕ) (o o' : Option Abort) (s : State) → n ≤ m → SameK o o' → SameOrBroke (run_abort P R n o s) (run_abort P R' m o' s)
   unfolding run_abort
   abort-more n m none none s h without = run-alike n m _ _ (run_more P R R' more n m s h)
+  abort-more n m none (some b) s h x = elim x [ ]
+  abort-more n m (some a) none s h x = elim x [ ]
   abort-more n m (some a) (some b) s h (with-equal e g) = by_tests (ltb n a.at) (ltb m b.at) refl refl
     where
       by_tests : (t t' : Bool) → ltb n a.at ≡ t → ltb m b.at ≡ t'

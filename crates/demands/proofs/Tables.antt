@@ -243,12 +243,14 @@ names-known (s ∷ l) = here also all_map (λ x m. there m) (names-known l)
 
 known_step : (Q : Step → Type 0) (l : List Step) (i : ℕ) → All Q l → Known l i → Q (step_named l i)
 unfolding step_named
+known_step Q [] i h m = elim m [ ]
 known_step Q (s ∷ l) i h here = forked-by Q (eqb s.name s.name) _ _ (λ t. first_of h) (λ t. absurd (eqb-false s.name s.name t refl))
 known_step Q (s ∷ l) i h (there m) = forked Q (eqb s.name i) _ _ (first_of h) (known_step Q l i (rest_of h) m)
 
 -- in the first of two parts of a table; in the second, if its name is none of the first
 pub known-first : (Q : Step → Type 0) (l r : List Step) (i : ℕ) → All Q l → Known l i → Q (step_named (l ++ r) i)
 unfolding step_named
+known-first Q [] r i h m = elim m [ ]
 known-first Q (s ∷ l) r i h here = forked-by Q (eqb s.name s.name) _ _ (λ t. first_of h) (λ t. absurd (eqb-false s.name s.name t refl))
 known-first Q (s ∷ l) r i h (there m) = forked Q (eqb s.name i) _ _ (first_of h) (known-first Q l r i (rest_of h) m)
 

@@ -77,9 +77,9 @@ module _ (W : List Word) (F : Filling) where
   pub data-inside : (D : Data) {ds : List Declared} {at to : ℕ} → DeclarationsAt (sort_in W) (Parses (sort_in W)) ds at to → Inside at to (data_faults W F ds D)
   unfolding data_faults
   data-inside D (none-starts s e) = no-fault
-  data-inside D (one-starts s k h) =
+  data-inside D (one-starts {a = a} s k h) =
       widen (declared-inside _ D k) (omega arith) (omega (arith, declarations-grow (sort_in W) (Parses (sort_in W)) (grows W) h))
-      and widen (data-inside _ h) (omega (arith, declared-grows (sort_in W) (Parses (sort_in W)) (grows W) _ _ _ k)) (omega arith)
+      and widen (data-inside (declare_content W F (type_of a.type) a.name a.content D) h) (omega (arith, declared-grows (sort_in W) (Parses (sort_in W)) (grows W) _ _ _ k)) (omega arith)
 
   pub parameter-inside : (D : Data) {p : Parameter} {at to : ℕ} → ParameterAt (sort_in W) (Parses (sort_in W)) p at to → Inside at to (name_faults W F p.name (pos 0 ∷ []) D)
   parameter-inside D {p} {at} {to} h = name-inside p.name at to _ D (omega (arith, h.named)) (omega (arith, h.named, h.after))
@@ -88,10 +88,10 @@ module _ (W : List Word) (F : Filling) where
   pub separated-inside : (D : Data) {ps : List Parameter} {at to : ℕ} → SeparatedAt (sort_in W) (ParameterAt (sort_in W) (Parses (sort_in W))) ps at to → Inside at to (parameter_faults W F ps D)
   unfolding parameter_faults
   separated-inside D (last_one k f) = parameter-inside D k and no-fault
-  separated-inside D (one_more k c h) =
+  separated-inside D (one_more {a = a} k c h) =
       let g = separated-grows (sort_in W) (ParameterAt (sort_in W) (Parses (sort_in W))) (parameter-grows (sort_in W) (Parses (sort_in W)) (grows W)) h in
       widen (parameter-inside D k) (omega arith) (omega arith)
-      and widen (separated-inside _ h) (omega (arith, parameter-grows (sort_in W) (Parses (sort_in W)) (grows W) _ _ _ k)) (omega arith)
+      and widen (separated-inside (declare_name W F a.name (variable (type_of a.type)) (pos 0 ∷ []) [] D) h) (omega (arith, parameter-grows (sort_in W) (Parses (sort_in W)) (grows W) _ _ _ k)) (omega arith)
 
   pub parameters-inside : (D : Data) {ps : List Parameter} {at to : ℕ} → ParametersAt (sort_in W) (Parses (sort_in W)) ps at to → Inside at to (parameter_faults W F ps D)
   unfolding parameter_faults

@@ -84,6 +84,7 @@ back-of [] ys h = h
 back-of (f ∷ xs) ys (q also h) = back-of xs ys h
 
 pub every_one : {Q : Fault → Type 0} {f : Fault} {fs : List Fault} → Every Q fs → Memᴰ f fs → Q f
+every_one no-fault m = elim m [ ]
 every_one {Q} (q also h) (Memᴰ.head e) = subst Q (sym e) q
 every_one (q also h) (Memᴰ.tail m) = every_one h m
 
@@ -240,6 +241,7 @@ least-none fs e = rw e
 least-of : (f a : Fault) (r : List Fault) → Memᴰ f (a ∷ r) → Leads f (a ∷ r) → least_of a r ≡ f
 unfolding least_of
 least-of f a [] (Memᴰ.head e) h = sym e
+least-of f a [] (Memᴰ.tail m) h = elim m [ ]
 least-of f a (b ∷ r) m (q also (p also h)) =
     test (comes_first a b) (λ t. rw (t, least_of) (least-of f a r (kept t m) (q also h))) (λ t. rw (t, least_of) (least-of f b r (left t m) (p also h)))
   where

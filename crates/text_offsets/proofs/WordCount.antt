@@ -1,27 +1,25 @@
 -- Words counted down to the one that is asked for.
-use mathlib.Core.Path.{◌≡◌, refl, sym, ap, subst, ◌∙◌}
-use mathlib.Core.Bool.{true, false}
+use mathlib.Core.Path.{◌≡◌, refl, sym, ap, ◌∙◌}
 use mathlib.Core.List.{List, [], ◌∷◌}
 use mathlib.Core.Option.{Option, none, some}
-use Prim.Native.Nat.{ℕ, zero, suc, ◌+◌, ◌-◌, ◌<◌, ◌≤◌}
+use Prim.Native.Nat.{ℕ, suc, ◌-◌, ◌<◌, ◌≤◌}
 use native.Mathlib.Omega.{arith}
 use lib.Dec.{ltb}
-use lib.ListN.{length, get_or}
+use lib.ListN.{length}
 use borrow.Author.Tests.{lt-ltb, le-ltb, ltb-true, ltb-false}
 use Rattle.laws.proofs.Tests.{test}
 use mathlib.Core.Logic.{◌⊎◌, inl, inr}
 use denote.Enum.Declared.{tag_of}
 use Rattle.text_words.specs.contracts.Step.{the_type}
-use Rattle.paper.specs.Basics.{if◌then◌else◌}
 use Rattle.paper.specs.Words as paper
 use Rattle.paper.specs.Words.{Refusal, Reading, reading, no_words, with_word}
-use Rattle.paper.specs.Names.{no_word, nth}
+use Rattle.paper.specs.Names.{nth}
 use Rattle.paper.specs.Answer.{offset_of}
 use Rattle.text_words.specs.declared.Word.{Word}
 use Rattle.text_words.specs.declared.Cursor.{Cursor}
 use Rattle.text_words.specs.declared.Step.{Step}
 use Rattle.text_words.specs.declared.Step.TheVariants as steps
-use Rattle.text_words.specs.Answers.{word_of, after, Started, Stepped, left_of}
+use Rattle.text_words.specs.Answers.{Started, Stepped, left_of}
 use Rattle.text_words.proofs.Readings.{Gives, step_gives, step-ends, step-refuses, start_left}
 use Rattle.text_offsets.specs.Offsets.{Offset}
 

@@ -1,5 +1,5 @@
-// The word reader: it holds a lent text and its place there, and reads one word after another. A function over a struct that holds a reference is proved by a
-// walk of its code, by hand, so each of these is thin: it takes the reader apart, and the reading of `text_words` does the work on the text and the cursor.
+// The word reader: it holds a lent text and its place there, and reads one word after another. Each of its functions is thin: it takes the reader apart, and
+// the reading of `text_words` does the work on the text and the cursor.
 #![tactic(auto)]
 
 ghost use Rattle.std.specs.Prelude.{◌≡◌};

@@ -121,8 +121,8 @@ module _ (text : Bor (List ℕ)) (place : ℕ) (r : Found) (is : FoundAt text.no
   nothing none e = refl
   nothing (some part) e = apart (cc)
 
-  pub part_none : (name : ℕ) → r ≡ Nothing → PartAt text place (record { ref_ptr = text.ptr; ghost_name = name; now = [] }) false
-  part_none name e =
+  pub part_none : r ≡ Nothing → PartAt text place (record { ref_ptr = text.ref_ptr; now = [] }) false
+  part_none e =
       let no = nothing (asked text.now place) (sym e ∙ is) in
       record { start = rw no; bytes = rw no; flag = rw no }
 

@@ -29,4 +29,4 @@ returns-in-9 c = search (rules, by_length)
 
 pub returns-in_default : goal.returns-in_default
 unfolding table of
-returns-in_default c = no_length _ _ _ c.in_default.rest
+returns-in_default c = no_length _ _ _ (search rules)

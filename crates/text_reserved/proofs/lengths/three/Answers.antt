@@ -1,8 +1,39 @@
-use Rattle.paper.specs.Sorts.{bytes}
-use Rattle.text_reserved.specs.Keys.{look, of, row, table}
-use Rattle.text_reserved.proofs.Rows.{no-letter}
+use Rattle.paper.specs.Sorts.{bytes, folded, reserved, equal_texts, number_in, name_sort}
+use Rattle.text_reserved.specs.Keys.{packed, behind, word_of, look, of, row, table, candidates}
+use Rattle.text_reserved.proofs.Rows.{by-letter, no-letter}
+use borrow.Author.Rules.{rules}
 use Rattle.text_reserved.proofs.lengths.three.Goals as goal
 
+-- antt computes the row of each letter that begins a word
+pub returns-in-65 : goal.returns-in-65
+unfolding candidates look table of row word_of behind packed name_sort number_in equal_texts reserved bytes folded
+returns-in-65 c = search (rules, by-letter)
+
+pub returns-in-68 : goal.returns-in-68
+unfolding candidates look table of row word_of behind packed name_sort number_in equal_texts reserved bytes folded
+returns-in-68 c = search (rules, by-letter)
+
+pub returns-in-70 : goal.returns-in-70
+unfolding candidates look table of row word_of behind packed name_sort number_in equal_texts reserved bytes folded
+returns-in-70 c = search (rules, by-letter)
+
+pub returns-in-77 : goal.returns-in-77
+unfolding candidates look table of row word_of behind packed name_sort number_in equal_texts reserved bytes folded
+returns-in-77 c = search (rules, by-letter)
+
+pub returns-in-78 : goal.returns-in-78
+unfolding candidates look table of row word_of behind packed name_sort number_in equal_texts reserved bytes folded
+returns-in-78 c = search (rules, by-letter)
+
+pub returns-in-86 : goal.returns-in-86
+unfolding candidates look table of row word_of behind packed name_sort number_in equal_texts reserved bytes folded
+returns-in-86 c = search (rules, by-letter)
+
+pub returns-in-88 : goal.returns-in-88
+unfolding candidates look table of row word_of behind packed name_sort number_in equal_texts reserved bytes folded
+returns-in-88 c = search (rules, by-letter)
+
+-- and no other letter has one
 pub returns-in_default : goal.returns-in_default
 unfolding look table of row bytes
-returns-in_default c = no-letter 3 _ _ c.in_default.rest
+returns-in_default c = no-letter 3 _ _ (search rules)

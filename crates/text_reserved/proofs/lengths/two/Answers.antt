@@ -1,8 +1,27 @@
-use Rattle.paper.specs.Sorts.{bytes}
-use Rattle.text_reserved.specs.Keys.{look, of, row, table}
-use Rattle.text_reserved.proofs.Rows.{no-letter}
+use Rattle.paper.specs.Sorts.{bytes, folded, reserved, equal_texts, number_in, name_sort}
+use Rattle.text_reserved.specs.Keys.{packed, behind, word_of, look, of, row, table, candidates}
+use Rattle.text_reserved.proofs.Rows.{by-letter, no-letter}
+use borrow.Author.Rules.{rules}
 use Rattle.text_reserved.proofs.lengths.two.Goals as goal
 
+-- antt computes the row of each letter that begins a word
+pub returns-in-68 : goal.returns-in-68
+unfolding candidates look table of row word_of behind packed name_sort number_in equal_texts reserved bytes folded
+returns-in-68 c = search (rules, by-letter)
+
+pub returns-in-73 : goal.returns-in-73
+unfolding candidates look table of row word_of behind packed name_sort number_in equal_texts reserved bytes folded
+returns-in-73 c = search (rules, by-letter)
+
+pub returns-in-79 : goal.returns-in-79
+unfolding candidates look table of row word_of behind packed name_sort number_in equal_texts reserved bytes folded
+returns-in-79 c = search (rules, by-letter)
+
+pub returns-in-84 : goal.returns-in-84
+unfolding candidates look table of row word_of behind packed name_sort number_in equal_texts reserved bytes folded
+returns-in-84 c = search (rules, by-letter)
+
+-- and no other letter has one
 pub returns-in_default : goal.returns-in_default
 unfolding look table of row bytes
-returns-in_default c = no-letter 2 _ _ c.in_default.rest
+returns-in_default c = no-letter 2 _ _ (search rules)
