@@ -1,11 +1,11 @@
 # shellcheck shell=bash
 # Shell functions for C hosts of the proved library, which is compiled for x86-64. Sourced by scripts.
-# On another processor a host is cross-compiled, linked statically and run under the kit's emulator.
+# On another processor a host is cross-compiled, linked statically and run under Debian's emulator.
 # Where HOST_FOR is aarch64-linux-gnu, hosts are for that machine, with the library that host/build --for made; elsewhere they run under Debian's emulator.
 
 # The proved library that has rapid_class, for all scripts: one of its own, or that of rapid_run.
 # shellcheck disable=SC2034
-HOST_CLASS=call_class
+HOST_CLASS=call_class_c
 
 host_packages() { # the Debian packages that this machine lacks for a C host
     if [ "$(uname -m)" = x86_64 ]; then
@@ -26,42 +26,19 @@ host_tablet_packages() { # those that it lacks for Arm and for a page in a brows
     command -v chromium >/dev/null 2>&1 || command -v chromium-browser >/dev/null 2>&1 || command -v google-chrome >/dev/null 2>&1 || echo chromium
 }
 
-host_library() { # NAME: makes target/staticlib/libNAME.a, for which rt proves its crate once more, and NAME.bc beside it (host_keep); where HOST_BUILT is set, what is there is taken. What rt says is shown only where it fails
-    local said kept=$PWD/target/kept/$1
+host_library() { # NAME: makes target/staticlib/libNAME.a, and NAME.bc beside it, the bitcode that it was compiled from (tools/kit.py); where HOST_BUILT is set, what is there is taken. What rt says is shown only where it fails
     if [ -n "${HOST_BUILT:-}" ] && [ -f "target/staticlib/lib$1.a" ]; then return; fi
     if [ -n "${HOST_ARCHIVES:-}" ]; then return; fi
-    host_keep "$kept"
-    said=$(RATTLE_HOME=$kept/kit rt staticlib "$1" 2>&1) || { printf '%s\n' "$said"; echo "no static library of $1"; return 1; }
-    mv "$kept/module.bc" "target/staticlib/$1.bc"
-    mv "$kept/words" "target/staticlib/$1.words"
-    rm -r "$kept"
+    tools/kit.py static "$1" target/staticlib
 }
 
 host_bitcode() { # NAME: the bitcode that its library was compiled from; made where there is none, and where something under crates/ is newer than it, but not where HOST_BUILT is set
     local bitcode=target/staticlib/$1.bc
-    if [ -f "$bitcode" ] && { [ -n "${HOST_BUILT:-}" ] || [ -z "$(find crates -newer "$bitcode" -type f -print -quit)" ]; }; then return; fi
+    if [ -f "$bitcode" ] && { [ -n "${HOST_BUILT:-}" ] || [ -z "$(find crates -path 'crates/*/out' -prune -o -newer "$bitcode" -type f -print -quit)" ]; }; then return; fi
     HOST_BUILT='' host_library "$1"
 }
 
-host_kit() { dirname "$(dirname "$(readlink -f "$(command -v rt)")")"; } # the kit's folder
-
-host_toolchain() { echo "$(host_kit)/on/$(uname -m)/toolchain/bin"; } # where its clang is, which is also wasm-ld and llvm-ar, by the name that it is called
-
-# FOLDER: puts there a kit of links to the kit's files, but that its clang is a script: it keeps the bitcode that it is to compile, and the words that it is called by, as module.bc and words in the
-# folder, then calls the kit's. So what is compiled for other machines is what rt had proved. rattle hands on no environment, so the folder stands in the script.
-host_keep() {
-    local kit shadow=$1/kit part file
-    kit=$(host_kit)
-    rm -rf "$1"
-    mkdir -p "$shadow"
-    for part in on "$(uname -m)" toolchain bin clang; do
-        for file in "$kit"/*; do [ "${file##*/}" = "$part" ] || ln -s "$file" "$shadow/"; done
-        kit=$kit/$part shadow=$shadow/$part
-        [ "$part" = clang ] || mkdir "$shadow"
-    done
-    printf '#!/bin/sh\n[ ! -f module.bc ] || { /bin/cp module.bc "%s/" && echo "$*" >"%s/words"; } || exit 1\nexec "%s" "$@"\n' "$1" "$1" "$kit" >"$shadow"
-    chmod +x "$shadow"
-}
+host_toolchain() { echo "$(dirname "$(dirname "$(readlink -f "$(command -v rt)")")")/toolchain/bin"; } # where the kit's clang is, which is also wasm-ld and llvm-ar, by the name that it is called
 
 host_archive() { # NAME: where its library is; HOST_ARCHIVES is a folder of other ones (tools/faults)
     if [ -n "${HOST_FOR:-}" ]; then echo "${HOST_INTO:-target/host}/$HOST_FOR/librapid.a"; else echo "${HOST_ARCHIVES:-target/staticlib}/lib$1.a"; fi
@@ -112,7 +89,7 @@ host_program() { # PROGRAM gcc|g++ WORDS..: makes a program that runs by its nam
 
 host_launcher() { printf '#!/bin/sh\nexec "%s" "%s" "$@"\n' "$(host_emulator)" "$1"; } # EXECUTABLE: a script that runs it under the emulator
 
-host_emulator() { if [ -n "${HOST_FOR:-}" ]; then command -v "qemu-${HOST_FOR%%-*}"; else echo "$(host_toolchain)/qemu-x86_64"; fi; }
+host_emulator() { local machine=${HOST_FOR:-x86_64}; command -v "qemu-${machine%%-*}"; }
 
 host_is_native() { host_is_this || { [ -n "${HOST_FOR:-}" ] && [ "${HOST_FOR%%-*}" = "$(uname -m)" ]; }; } # whether hosts run without an emulator
 

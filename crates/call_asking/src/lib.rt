@@ -7,8 +7,7 @@ ghost use Rattle.call_asking.specs.Asking.{Told};
 use text_words::part_at;
 
 // How many bytes the word that starts at a place covers, or 0 where none starts there.
-#[unsafe(no_mangle)]
-pub extern "C" fn rapid_ask(text: &[u8], place: usize) -> usize
+pub fn rapid_ask(text: &[u8], place: usize) -> usize
     ensures { Told text.now place result }
 {
     let mut found = false;

@@ -176,8 +176,7 @@ fn carry_class<'a>(
 }
 
 // The call of a class: 0, or the number that it is refused by. Refused by 1 it touches nothing; else both stores are zeros afterwards.
-#[unsafe(no_mangle)]
-pub extern "C" fn rapid_class<'a>(
+pub fn rapid_class<'a>(
     texts: &'a [u8],
     lengths: &[u8],
     steps: u32,

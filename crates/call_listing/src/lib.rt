@@ -98,8 +98,7 @@ fn list(text: &[u8], out: &mut [u8]) -> Summary
 
 // Writes an entry of twelve bytes for each word, kind, place and length, as many as there is room for, and into the answer how many words there are,
 // the refusal and its place. 1, or 0 where the answer is too short, and then nothing is touched.
-#[unsafe(no_mangle)]
-pub extern "C" fn rapid_list(text: &[u8], out: &mut [u8], answer: &mut [u8]) -> u32
+pub fn rapid_list(text: &[u8], out: &mut [u8], answer: &mut [u8]) -> u32
     ensures { Exported text.now out.old answer.old result out.new answer.new }
 {
     if answer.len() < THREE {

@@ -103,8 +103,7 @@ fn judge<'a>(
 }
 
 // The call: what `rapid_run` leaves, and what is told of the listing. 1, or 0 where the record or the answer is too short, and then nothing is touched.
-#[unsafe(no_mangle)]
-pub extern "C" fn rapid_mark<'a>(
+pub fn rapid_mark<'a>(
     text: &'a [u8],
     steps: u32,
     depth: u32,

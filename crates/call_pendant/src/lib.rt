@@ -44,8 +44,7 @@ fn call<'a>(
 }
 
 // The call.
-#[unsafe(no_mangle)]
-pub extern "C" fn rapid_run<'a>(
+pub fn rapid_run<'a>(
     text: &'a [u8],
     steps: u32,
     depth: u32,
@@ -71,8 +70,7 @@ pub extern "C" fn rapid_run<'a>(
 }
 
 // The call of a run that is aborted at a step, with so many steps for its UNDO lists. Of the flags none has a meaning yet: with one that is not known it answers 0, and nothing is touched.
-#[unsafe(no_mangle)]
-pub extern "C" fn rapid_run_until<'a>(
+pub fn rapid_run_until<'a>(
     text: &'a [u8],
     flags: u32,
     steps: u32,

@@ -3,7 +3,7 @@ use mathlib.Core.Path.{◌≡◌, refl, sym, ap, ap₂, ◌∙◌}
 use mathlib.Core.Bool.{false}
 use mathlib.Core.List.{List, [], ◌∷◌, ◌++◌}
 use mathlib.Core.Option.{some}
-use Prim.Native.Nat.{ℕ, suc, ◌+◌, ◌<◌, ◌≤◌}
+use Prim.Native.Nat.{zero, ℕ, suc, ◌+◌, ◌<◌, ◌≤◌}
 use native.Mathlib.Omega.{arith}
 use lib.ListN.{length, replicate}
 use lib.IntN.{ℤ, pos, ◌-ℤ◌}
@@ -44,6 +44,7 @@ rise-on b to far (d ∷ r) h x = (x.0, rise-on d to far r h x.1)
 module _ (C : List ℕ) (end : ℕ) (opens : op_at C end ≡ the_parameters) where
   ends_at : (f i : ℕ) → 0 < f → i ≡ end → data_in C f i ≡ some ([], end)
   unfolding data_in
+  ends_at zero i h e = elim h [ ]
   ends_at (suc f) i h e =
       rw e
       (rw (ne_eqb (op_at C end) a_datum (λ q. omega arith), data_in)
@@ -56,6 +57,7 @@ module _ (C : List ℕ) (end : ℕ) (opens : op_at C end ≡ the_parameters) whe
   pub chain-reads : (f b : ℕ) (ds : List ℕ) → length ds < f → Leads C b ds → link_at C (last_of b ds) ≡ end → data_in C f (link_at C b) ≡ some (starts_in C ds, end)
   unfolding Leads last_of starts_in
   chain-reads f b [] h x e = ends_at f (link_at C b) (omega arith) e
+  chain-reads zero b (d ∷ r) h x e = elim h [ ]
   chain-reads (suc f) b (d ∷ r) h x e = rw x.0 (datum-at f d (starts_in C r) x.1 (chain-reads f d r (omega arith) x.2 e))
 
 -- ---- words that stay: those that do not lead on

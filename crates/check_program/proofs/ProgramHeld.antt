@@ -37,7 +37,7 @@ use Rattle.check_program.proofs.Orders.{lies, behind-form, behind-raw, optional-
 use Rattle.check_program.proofs.WalkStays.{routine-order, routines-order}
 
 -- ---- small parts
-within-small : {l : List Step} (a b : ℕ) → 0 < a → b < parts → Within a b l → Every SmallName l
+within-small : (a b : ℕ) {l : List Step} → 0 < a → b < parts → Within a b l → Every SmallName l
 within-small a b h g no-step-left = done
 within-small a b h g (one-step {s = s} x y z) = also {s = s} (omega arith, omega arith) (within-small a b h g z)
 

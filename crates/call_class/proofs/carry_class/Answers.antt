@@ -4,10 +4,6 @@ use Rattle.call_class.specs.Classes.{lent}
 use Rattle.call_class.proofs.Modules.{class-none, class-start, class-text, class-carries, class-step, class-end}
 use Rattle.call_class.proofs.carry_class.Goals as goal
 
--- from the loop back to the start
-abbrev start : tie.At-loop invariant-loop decreases-loop → tie.Start invariant-loop decreases-loop
-start c = c.before.before.before.before.before.before.before.before.before.before
-
 pub returns-then-n-eq0 : goal.returns-then-n-eq0
 returns-then-n-eq0 c = search (rules, class-none)
 
@@ -16,16 +12,16 @@ loop-i-init c = class-start _ _ _ _ _ _ _ _ _ _
 
 pub overflow_add-end : goal.overflow_add-end
 overflow_add-end c =
-    omega (arith, class-text _ _ _ _ _ _ _ _ _ _ (start c).requires _ _ _ _ _ _ _ _ c.loop-i.invariant c.loop-i-test.true c.get.ensures)
+    omega (arith, class-text _ _ _ _ _ _ _ _ _ _ c.requires _ _ _ _ _ _ _ _ c.loop-i.invariant c.loop-i-test.true c.get.ensures)
 
 pub carry_module-requires : goal.carry_module-requires
 carry_module-requires c = search (rules, class-carries)
 
 pub loop-i-preserved : goal.loop-i-preserved
 loop-i-preserved c =
-    class-step _ _ _ _ _ _ _ _ _ _ (start c).requires _ _ _ _ _ _ _ _ c.loop-i.invariant c.loop-i-test.true c.get.ensures
+    class-step _ _ _ _ _ _ _ _ _ _ c.requires _ _ _ _ _ _ _ _ c.loop-i.invariant c.loop-i-test.true c.get.ensures
     c.carry_module.ensures
-    c.out-1.given c.code-1.given c.values-1.given c.records-1.given c.kept-1.given
+    c.carry_module.auto.out c.carry_module.auto.code c.carry_module.auto.values c.carry_module.auto.records c.carry_module.auto.kept
 
 pub shape_of-out : goal.shape_of-out
 unfolding lent
@@ -49,3 +45,7 @@ shape_of-kept c = c.loop-i.invariant.data-long
 
 pub returns : goal.returns
 returns c = search (rules, class-end)
+
+pub slice_bounds-carry_module-end : goal.slice_bounds-carry_module-end
+slice_bounds-carry_module-end c =
+    omega (arith, class-text _ _ _ _ _ _ _ _ _ _ c.requires _ _ _ _ _ _ _ _ c.loop-i.invariant c.loop-i-test.true c.get.ensures)

@@ -9,4 +9,4 @@ pub returns-in-Refused : goal.returns-in-Refused
 returns-in-Refused c = search (rules, judged-refused)
 
 pub returns-in-Accepted : goal.returns-in-Accepted
-returns-in-Accepted c = search (rules, judged-carried)
+returns-in-Accepted c = judged-carried _ _ _ _ c.requires.0 _ _ _ _ _ _ c.check.ensures c.in-Accepted.is c.carry_out.ensures

@@ -39,7 +39,7 @@ shape_of-code-then-n-colon c =
 
 pub returns-then-n-colon : goal.returns-then-n-colon
 returns-then-n-colon c =
-    link-ends _ _ _ _ _ _ c.loop-code.invariant _ _ _ c.get.ensures c.get.ensures refl c.if-n-colon.true _
+    link-ends _ _ _ _ _ _ c.loop-code.invariant _ _ _ c.get-h.ensures c.get.ensures refl c.if-n-colon.true _
     c.rewrite.ensures c.requires.0
 
 pub overflow_add-colon-in-loop-code : goal.overflow_add-colon-in-loop-code
@@ -54,16 +54,16 @@ rewrite-requires-in-loop-code c = (
     arith,
     c.requires.0.last,
     link-next
-        _ _ _ _ _ _ c.loop-code.invariant _ _ _ c.get.ensures c.get.ensures refl c.requires.0 c.if-n-colon.false,
+        _ _ _ _ _ _ c.loop-code.invariant _ _ _ c.get-h.ensures c.get.ensures refl c.requires.0 c.if-n-colon.false,
   ),
 )
 
 pub loop-code-smaller : goal.loop-code-smaller
 loop-code-smaller c =
-    link-less _ _ _ _ _ _ c.loop-code.invariant _ _ _ c.get.ensures c.get.ensures refl c.if-n-colon.false c.requires.0 _
+    link-less _ _ _ _ _ _ c.loop-code.invariant _ _ _ c.get-h.ensures c.get.ensures refl c.if-n-colon.false c.requires.0 _
     c.rewrite-in-loop-code.ensures
 
 pub loop-code-preserved : goal.loop-code-preserved
 loop-code-preserved c =
-    link-goes _ _ _ _ _ _ c.loop-code.invariant _ _ _ c.get.ensures c.get.ensures refl c.if-n-colon.false c.requires.0 _
+    link-goes _ _ _ _ _ _ c.loop-code.invariant _ _ _ c.get-h.ensures c.get.ensures refl c.if-n-colon.false c.requires.0 _
     c.rewrite-in-loop-code.ensures

@@ -1,5 +1,4 @@
 use borrow.Author.Rules.{rules}
-use borrow.Author.Tests.{not-true, not-false}
 use mathlib.Core.Path.{sym, ◌∙◌}
 use Rattle.check_routines.proofs.RoutineRules.{head-room, head_small, name-room, routine-taken, routine-many, routine-scope, routine-done}
 use Rattle.check_routines.proofs.routine.Goals as goal
@@ -16,27 +15,27 @@ meaning-m-requires c = search (rules, name-room)
 pub returns-then-not-names_routine : goal.returns-then-not-names_routine
 returns-then-not-names_routine c = (
   routine-taken _ _ _ _ _ _ _ c.result_of-result.ensures c.name_of-name.ensures _ c.meaning-m.ensures
-      (sym c.names_routine.ensures ∙ not-true _ c.if-not-names_routine.true),
+      (sym c.names_routine.ensures ∙ c.if-not-names_routine.true),
   tt,
 )
 
 pub returns-then-k-eq-ROUTINES : goal.returns-then-k-eq-ROUTINES
 returns-then-k-eq-ROUTINES c = (
   routine-many _ _ _ _ _ _ _ c.result_of-result.ensures c.name_of-name.ensures _ c.meaning-m.ensures
-      (sym c.names_routine.ensures ∙ not-false _ c.if-not-names_routine.false) c.if-k-eq-ROUTINES.true,
+      (sym c.names_routine.ensures ∙ c.if-not-names_routine.false) c.if-k-eq-ROUTINES.true,
   tt,
 )
 
 pub scope-requires : goal.scope-requires
 scope-requires c = (
   routine-scope _ _ _ _ _ _ _ c.result_of-result.ensures c.name_of-name.ensures _ c.meaning-m.ensures
-      (sym c.names_routine.ensures ∙ not-false _ c.if-not-names_routine.false) c.if-k-eq-ROUTINES.false c.requires.0,
+      (sym c.names_routine.ensures ∙ c.if-not-names_routine.false) c.if-k-eq-ROUTINES.false c.requires.0,
   c.requires.1,
 )
 
 pub returns : goal.returns
 returns c = (
   routine-done _ _ _ _ _ _ _ c.result_of-result.ensures c.name_of-name.ensures _ c.meaning-m.ensures
-      (sym c.names_routine.ensures ∙ not-false _ c.if-not-names_routine.false) c.if-k-eq-ROUTINES.false _ _ _ c.scope.ensures.0,
+      (sym c.names_routine.ensures ∙ c.if-not-names_routine.false) c.if-k-eq-ROUTINES.false _ _ _ c.scope.ensures.0,
   c.scope.ensures.1,
 )

@@ -452,8 +452,8 @@ full_if-shape_of-values-then-sort-ne-ELSEIF t c =
     omega (
       arith,
       arm-values _ _ _ _ _ _ _ _ _ _ _ _ _ c.loop-e.invariant.0 c.requires.0,
-      c.list-r.auto.1.1.0,
-      c.else_part-r.auto.1.1.0,
+      c.list-r.auto.values,
+      c.else_part-r.auto.values,
     )
 
 pub full_if-returns-then-sort-ne-ELSEIF : goal.full_if-returns-then-sort-ne-ELSEIF

@@ -3,10 +3,10 @@ use borrow.Author.Rules.{rules}
 use Rattle.check_whole.proofs.judge_form.Goals as goal
 
 pub form-requires : goal.form-requires
-form-requires c = search (rules, words-lent)
+form-requires c = words-lent _ _ _ _ c.requires
 
 pub judge_names-requires : goal.judge_names-requires
-judge_names-requires c = search (rules, form-right)
+judge_names-requires c = form-right _ _ _ _ c.requires _ c.form.ensures c.in-Formed.is
 
 pub returns-in-Refused : goal.returns-in-Refused
-returns-in-Refused c = search (rules, form-refused)
+returns-in-Refused c = form-refused _ _ _ _ c.requires _ c.form.ensures _ _ _ c.in-Refused.is c.offset_of.ensures

@@ -1,3 +1,4 @@
+use borrow.Author.Tests.{lt-ltb}
 use borrow.Author.Rules.{rules}
 use Rattle.run_calls.proofs.CallSteps.{call-inside, lack-fits, lack-signed, passes, argument-error, signed, fits, leads-inside, may, enters-done, lacks-done}
 use Rattle.run_calls.proofs.call.Goals as goal
@@ -21,7 +22,7 @@ pub enter-requires : goal.enter-requires
 enter-requires c =
     may _ _ _ _ _ _ _ _ c.requires _ c.link.ensures _ _ (record { sfits = c.arguments-r.type_inv })
     c.arguments-r.ensures c.if-r-ge-FIRST_ERROR.false _ c.goes_on-at.ensures
-    c.if-room.true _ c.link-then-room.ensures
+    (lt-ltb _ _ c.if-room.true) _ c.link-then-room.ensures
 
 pub returns-then-room : goal.returns-then-room
 returns-then-room c = search (rules, enters-done)

@@ -1,10 +1,8 @@
-use mir.Syntax.{w64}
-use mir.Val.{to_z}
 use Rattle.run_cases.proofs.TestValues.{Searching, words_left}
 use Rattle.run_cases.proofs.matching.Given as goal
 
 abbrev pub invariant-loop-first : goal.invariant-loop-first
-invariant-loop-first l = Searching l.code l.first (to_z w64 l.v) l.j
+invariant-loop-first l = Searching l.code l.first l.v l.j
 
 abbrev pub decreases-loop-first : goal.decreases-loop-first
 decreases-loop-first l = words_left l.code l.j

@@ -48,6 +48,6 @@ begin-requires c =
     let step = c.link-s in
     let to-value = c.worth-b in
     let to-told = c.if-b-ge-FIRST_ERROR.false in
-    let step_value = c.step_of_lem in
+    let step_value = c.step_of-c in
     head-begins _ _ _ _ _ start.1 _ to.ensures from-value.result (search rules) from-value.ensures from_told _ step.ensures
     to-value.result (search rules) to-value.ensures to-told step_value.result (search rules) step_value.ensures c.if-c-ge-FIRST_ERROR.false start.0

@@ -24,7 +24,7 @@ overflow_add-e-2 c = search (rules, of-fits)
 
 pub shape_of-out : goal.shape_of-out
 shape_of-out c =
-    simp length-set (c.number.auto.0 ∙ c.string-e.auto.1.1.0)
+    simp length-set (c.number.auto.out ∙ c.string-e.auto.out)
 
 pub returns : goal.returns
 returns c =

@@ -1,49 +1,62 @@
 use Rattle.run_output.proofs.TPReadNum.{Asking, Asked, read-in, read_next, read-sum, read-sum-7, read_answer, read-answer-7, read-target, read-fails, read-lacks, read_none, read-adds, read-cast, read-takes, read_out, read_done}
 use borrow.Author.Rules.{rules}
 use Rattle.run_output.proofs.read.Goals as goal
+use Rattle.run_output.proofs.read.Goals.{After-characters, After-add}
 
--- what is known where the room for the line is tested, and once it is added
-abbrev asking : tie.After-characters → Asking
-asking c =
-    let at-if1 = c.before.before.before in
-    let at-target-cell = at-if1.before in
-    let start = at-target-cell.before.before.before.before.before.before.before in
-    record {
-      text = _;
-      code = _;
-      values = _;
-      inputs = start.args.inputs.now;
-      out = _;
-      base = _;
-      i = _;
-      s = _;
-      reads = start.requires.0;
-      says = start.requires.1;
-      k = _;
-      fits = record { sfits = at-target-cell.target-cell.type-inv };
-      spot = at-target-cell.target-cell.ensures;
-      found = at-if1.if1.false;
-      at = _;
-      at-is = c.before.count_at.ensures;
-      n = _;
-      n-is = c.characters.ensures.0;
-    }
+-- what is known where the room for the line is tested
+abbrev asking : After-characters → Asking
+asking c = record {
+  text = _;
+  code = _;
+  values = _;
+  inputs = c.args.inputs.now;
+  out = _;
+  base = _;
+  i = _;
+  s = _;
+  reads = c.requires.0;
+  says = c.requires.1;
+  k = _;
+  fits = record { sfits = c.target_cell-k.type_inv };
+  spot = c.target_cell-k.ensures;
+  found = c.if-k-ge-FIRST_ERROR.false;
+  at = _;
+  at-is = c.count_at.ensures;
+  n = _;
+  n-is = c.characters.ensures.0;
+}
 
-abbrev asked : tie.After-add → Asked
-asked c =
-    let at-if3 = c.before.before.before in
-    let at-used = at-if3.before in
-    let at-if2 = at-used.before.before in
-    record {
-      asking = asking at-if2.before;
-      room = at-if2.if2.false;
-      used = _;
-      used-is = at-used.count-at2.ensures;
-      more = at-if3.if3.false;
-      mid = _;
-      out' = _;
-      added = c.add.ensures;
-    }
+-- and once the line is added
+abbrev asked : After-add → Asked
+asked c = record {
+  asking = record {
+    text = _;
+    code = _;
+    values = _;
+    inputs = c.args.inputs.now;
+    out = _;
+    base = _;
+    i = _;
+    s = _;
+    reads = c.requires.0;
+    says = c.requires.1;
+    k = _;
+    fits = record { sfits = c.target_cell-k.type_inv };
+    spot = c.target_cell-k.ensures;
+    found = c.if-k-ge-FIRST_ERROR.false;
+    at = _;
+    at-is = c.count_at.ensures;
+    n = _;
+    n-is = c.characters.ensures.0;
+  };
+  room = c.if-out-count_at.false;
+  used = _;
+  used-is = c.count_at-used.ensures;
+  more = c.if-inputs-used.false;
+  mid = _;
+  out' = _;
+  added = c.add.ensures;
+}
 
 pub overflow_add-i : goal.overflow_add-i
 overflow_add-i c = search (rules, read_next)
@@ -64,7 +77,7 @@ pub overflow_cast-result : goal.overflow_cast-result
 overflow_cast-result c = search (rules, read_answer)
 
 pub returns-then-out-count_at : goal.returns-then-out-count_at
-returns-then-out-count_at c = read-lacks (asking c) c.if-out-count_at.true
+returns-then-out-count_at c = read-lacks (asking (goal.at.returns-then-out-count_at c).After-characters) c.if-out-count_at.true
 
 pub overflow_add-result-then-inputs-used : goal.overflow_add-result-then-inputs-used
 overflow_add-result-then-inputs-used c = search (rules, read-sum-7)
@@ -73,26 +86,22 @@ pub overflow_cast-result-then-inputs-used : goal.overflow_cast-result-then-input
 overflow_cast-result-then-inputs-used c = search (rules, read-answer-7)
 
 pub returns-then-inputs-used : goal.returns-then-inputs-used
-returns-then-inputs-used c =
-    read_none (asking c) c.if-out-count_at.false _ c.count_at-used.ensures c.if-inputs-used.true
+returns-then-inputs-used c = read_none (asking (goal.at.returns-then-inputs-used c).After-characters) c.if-out-count_at.false _ c.count_at-used.ensures c.if-inputs-used.true
 
 pub add-requires : goal.add-requires
-add-requires c =
-    read-adds (asking c) c.if-out-count_at.false _ c.count_at-used.ensures
+add-requires c = read-adds (asking (goal.at.add-requires c).After-characters) c.if-out-count_at.false _ c.count_at-used.ensures
 
 pub overflow_cast-k : goal.overflow_cast-k
-overflow_cast-k c = read-cast (asked c)
+overflow_cast-k c = read-cast (asked (goal.at.overflow_cast-k c).After-add)
 
 pub take-requires : goal.take-requires
-take-requires c = read-takes (asked c)
+take-requires c = read-takes (asked (goal.at.take-requires c).After-add)
 
 pub link-requires : goal.link-requires
 link-requires c = search (rules, read-in)
 
 pub returns-then-take : goal.returns-then-take
-returns-then-take c =
-    read_done (asked c) _ _ c.take.ensures c.if-take.true _ c.link.ensures.same
+returns-then-take c = read_done (asked (goal.at.returns-then-take c).After-add) _ _ c.take.ensures c.if-take.true _ c.link.ensures.same
 
 pub returns : goal.returns
-returns c =
-    read_out (asked c) _ _ c.take.ensures c.if-take.false
+returns c = read_out (asked (goal.at.returns c).After-add) _ _ c.take.ensures c.if-take.false

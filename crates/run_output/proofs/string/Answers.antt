@@ -11,6 +11,9 @@ place-p-requires c = search (rules, string-there)
 pub value-bytes-requires : goal.value-bytes-requires
 value-bytes-requires c = search (rules, string-there)
 
+pub slice_bounds-copy-start : goal.slice_bounds-copy-start
+slice_bounds-copy-start c = search (rules, string-in)
+
 pub slice_bounds-copy-count : goal.slice_bounds-copy-count
 slice_bounds-copy-count c = search (rules, string-in)
 

@@ -1,11 +1,9 @@
 use Prim.Native.Nat.{◌-◌}
-use mir.Syntax.{w64}
-use mir.Val.{to_z}
 use Rattle.run_starting.proofs.CellsWritten.{Filling}
 use Rattle.run_starting.proofs.fill.Given as goal
 
 abbrev pub invariant-loop-k : goal.invariant-loop-k
-invariant-loop-k l = Filling l.initial.values l.values l.at l.count (to_z w64 l.v) l.k
+invariant-loop-k l = Filling l.initial.values l.values l.at l.count l.v l.k
 
 abbrev pub decreases-loop-k : goal.decreases-loop-k
 decreases-loop-k l = l.count - l.k

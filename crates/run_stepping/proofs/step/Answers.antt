@@ -126,4 +126,4 @@ returns-in-153 c = search (rules, performed)
 pub returns-in_default : goal.returns-in_default
 unfolding NoneOf
 returns-in_default c =
-    fell-off _ _ _ _ _ _ _ c.requires _ c.head-w.ensures c.in_default.rest _
+    fell-off _ _ _ _ _ _ _ c.requires _ c.head-w.ensures (search rules) _
