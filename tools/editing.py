@@ -10,6 +10,10 @@ Item = namedtuple("Item", "name kind public module owner cycle file first brace 
 # `items` of all its files; `imported`: of each file the paths that its `use` lines name; `outside`: of each file what stands in no function's body and in no constant
 Crate = namedtuple("Crate", "path items imported outside")
 
+# a name as antt has it; what stands before and behind it is none of its letters
+NAME = r"[A-Za-z][\w'-]*"
+LETTER = r"[\w'·.-]"
+
 
 class Bad(Exception):
     """What cannot be tried, and why."""
@@ -127,6 +131,15 @@ def names(crate, item, file, text):
     module = item.module[-1] if item.module else "(?:super|crate)"
     near = file == item.file or any(re.fullmatch(rf"(?:.*::)?{module}::{item.name}", path) for path in crate.imported[file])
     return re.search(rf"\b{module}::{item.name}{called}" + (rf"|(?<![\w.:]){item.name}{called}" if near else ""), text)
+
+
+def ghosts(text):
+    """What a file calls by which name: the module that a name is of, or that stands behind a prefix."""
+    names, prefixes = {}, {}
+    for path, listed, prefix in re.findall(r"^(?:ghost |pub |unfoldable )*use ([^\s{;]+?)(?:\.\{([^}]*)\}| as (\w+));?$", text, re.M):
+        names.update(dict.fromkeys(re.findall(NAME, listed), path))
+        prefixes.update({prefix: path} if prefix else {})
+    return names, prefixes
 
 
 # ---- edits by turns
