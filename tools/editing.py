@@ -4,10 +4,15 @@ from collections import namedtuple
 
 ROOT = os.path.dirname(os.path.dirname(os.path.abspath(__file__)))
 # `module`: the names of the modules around it; `owner`: the type that a method is of, or none. `first` and `last` are its lines in `file`, counted from 1, `brace` that
-# behind which a function's body begins, and of a constant the line before it. `text`: what stands behind `brace`, without comments
-Item = namedtuple("Item", "name kind public module owner file first brace last text")
+# behind which a function's body begins, and of a constant the line before it. `text`: what stands behind `brace`, without comments. `cycle`: the name that functions which
+# call each other share, or none
+Item = namedtuple("Item", "name kind public module owner cycle file first brace last text")
 # `items` of all its files; `imported`: of each file the paths that its `use` lines name; `outside`: of each file what stands in no function's body and in no constant
 Crate = namedtuple("Crate", "path items imported outside")
+
+# a name as antt has it; what stands before and behind it is none of its letters
+NAME = r"[A-Za-z][\w'-]*"
+LETTER = r"[\w'·.-]"
 
 
 class Bad(Exception):
@@ -55,6 +60,17 @@ def applied(crate, pairs, who, together=False):
     return lines
 
 
+def cycle_of(lines, n):
+    """The cycle that the attributes above line n name."""
+    above = n - 2
+    while above >= 0 and lines[above].strip().startswith("#["):
+        found = re.search(r"#\[cycle\((\w+)\)\]", lines[above])
+        if found:
+            return found[1]
+        above -= 1
+    return None
+
+
 def items_of(file, module, lines):
     """The functions and constants of a file: a function ends with a brace under its first letter, and contracts stand deeper than it."""
     owner = None
@@ -68,10 +84,21 @@ def items_of(file, module, lines):
             last = next(i for i in range(n, len(lines) + 1) if lines[i - 1] == indent + "}")
             brace = next(i for i in range(n, last) if re.fullmatch(indent + r"(\S.*)?\{", lines[i - 1]))
             public = bool(public) or (name, file) == ("main", "src/main.rt")
-            yield Item(name, "function", public, module, owner if indent else None, file, n, brace, last, "\n".join(lines[brace : last - 1]))
+            yield Item(name, "function", public, module, owner if indent else None, cycle_of(lines, n), file, n, brace, last, "\n".join(lines[brace : last - 1]))
         if constant:
             last = next(i for i in range(n, len(lines) + 1) if lines[i - 1].endswith(";"))
-            yield Item(constant[2], "constant", bool(constant[1]), module, None, file, n, n - 1, last, "\n".join([constant[3], *lines[n:last]]))
+            yield Item(constant[2], "constant", bool(constant[1]), module, None, None, file, n, n - 1, last, "\n".join([constant[3], *lines[n:last]]))
+
+
+USE = re.compile(r"^(?:pub )?use ([\w:]+?)(?:::\{([^}]*)\})?;", re.M)
+
+
+def imported_by(text):
+    """The paths that the `use` items of a file name."""
+    found = []
+    for path, names in USE.findall(text):
+        found += [f"{path}::{name.strip()}" for name in names.split(",") if name.strip()] or [path]
+    return found
 
 
 def crate_of(path):
@@ -85,8 +112,8 @@ def crate_of(path):
             lines = [re.sub(r"\s*//.*", "", line) for line in read(f"{path}/{file}").split("\n")]
             found = list(items_of(file, module, lines))
             within = {n for i in found for n in range(i.brace + 1, i.last + 1)}
-            imported[file] = re.findall(r"^(?:pub )?use ([\w:]+);", "\n".join(lines), re.M)
-            outside[file] = "\n".join(line for n, line in enumerate(lines, 1) if n not in within and not re.match("(pub )?use ", line))
+            imported[file] = imported_by("\n".join(lines))
+            outside[file] = USE.sub("", "\n".join(line for n, line in enumerate(lines, 1) if n not in within))
             items += found
     return Crate(path, items, imported, outside)
 
@@ -104,6 +131,15 @@ def names(crate, item, file, text):
     module = item.module[-1] if item.module else "(?:super|crate)"
     near = file == item.file or any(re.fullmatch(rf"(?:.*::)?{module}::{item.name}", path) for path in crate.imported[file])
     return re.search(rf"\b{module}::{item.name}{called}" + (rf"|(?<![\w.:]){item.name}{called}" if near else ""), text)
+
+
+def ghosts(text):
+    """What a file calls by which name: the module that a name is of, or that stands behind a prefix."""
+    names, prefixes = {}, {}
+    for path, listed, prefix in re.findall(r"^(?:ghost |pub |unfoldable )*use ([^\s{;]+?)(?:\.\{([^}]*)\}| as (\w+));?$", text, re.M):
+        names.update(dict.fromkeys(re.findall(NAME, listed), path))
+        prefixes.update({prefix: path} if prefix else {})
+    return names, prefixes
 
 
 # ---- edits by turns

@@ -86,18 +86,22 @@ def need(root, *names):
             make(root, name)
 
 
-def words(root, name, jobs=1):
-    """The words of a check, or of a build, of a crate as it stands in the folder where they are said."""
-    crates = crates_of(root)
-    is_static, deps = crates[name]
-    made = f"{kit()}/rlibs"
-    said = ["--crate-name", name, "src/main.rt" if os.path.isfile(f"{root}/crates/{name}/src/main.rt") else "src/lib.rt"]
+def words_over(root, name, deps, top="src/lib.rt", jobs=1):
+    """The words of a check of a crate of this name, over libraries of the repository and of the kit."""
+    crates, made = crates_of(root), f"{kit()}/rlibs"
+    said = ["--crate-name", name, top]
     for dep in ["std", *deps]:
         said += ["--extern", f"{dep}={library(root, dep) if dep in crates else f'{made}/{dep}.rlib'}"]
-    for folder in [made, *(os.path.dirname(library(root, dep)) for dep in below(crates, name))]:
+    for folder in [made, *(os.path.dirname(library(root, one)) for one in below({**crates, name: (False, deps)}, name))]:
         said += ["-L", f"dependency={folder}"]
-    said += ["--antt-project", f"{kit()}/rattle/logic/antt-project.json", "--logic-built", f"{kit()}/logic_built", "--jobs", str(jobs), "--links", f"{name}="]
-    return said + (["--crate-type", "staticlib"] if is_static else [])
+    return [*said, "--antt-project", f"{kit()}/rattle/logic/antt-project.json", "--logic-built", f"{kit()}/logic_built", "--jobs", str(jobs), "--links", f"{name}="]
+
+
+def words(root, name):
+    """The words of a check, or of a build, of a crate of the repository, in its folder or in that of a copy."""
+    is_static, deps = crates_of(root)[name]
+    top = "src/main.rt" if os.path.isfile(f"{root}/crates/{name}/src/main.rt") else "src/lib.rt"
+    return words_over(root, name, deps, top) + (["--crate-type", "staticlib"] if is_static else [])
 
 
 def rattle(verb, folder, *said):
