@@ -4,8 +4,8 @@ use mathlib.Core.List.{List, [], ◌∷◌, ◌++◌, append_assoc}
 use Prim.Native.Nat.{ℕ, zero, suc, ◌+◌, ◌*◌, ◌≤◌, ◌<◌}
 use native.Mathlib.Numerals.{add-one}
 use native.Mathlib.Omega.{arith}
-use lib.IntN.{ℤ, pos}
-use lib.ListN.{length, get_or, take, drop, set, length-append, length-drop}
+use lib.IntN.{pos}
+use lib.ListN.{length, get_or, take, drop, set, length-append}
 use lib.Seq.{take_at, drop_at, drop-drop, length-take-le, set_split}
 use mir.Syntax.{w32, w64}
 use mir.Val.{to_z, Fits}
@@ -18,7 +18,7 @@ use Rattle.store_cells.specs.Cells.{cells_of, Got}
 use Rattle.run_decimals.specs.Placed.{PutsNumber}
 use Rattle.run_decimals.specs.declared.Put.{Put}
 use Rattle.run_decimals.specs.declared.Put.TheVariants.{Done, NoRoom}
-use Rattle.run_decimals.proofs.Answers.{Whole, None, was-done, had-none}
+use Rattle.run_decimals.proofs.Answers.{Whole, was-done, had-none}
 use Rattle.run_decimals.proofs.Digits.{few}
 use Rattle.call_screen.specs.Screen.{field_room, line_room, numbered, line_of, behind_at, low_fields, PutOne, PutLine}
 

@@ -1,12 +1,11 @@
 -- What is shown of a call is the paper's screen, and the promise allows one outcome alone.
 use mathlib.Core.Path.{◌≡◌, refl, sym, ap, ap₂, ◌∙◌}
-use mathlib.Core.Bool.{Bool, true, false}
 use mathlib.Core.List.{List, ◌++◌}
 use Prim.Native.Nat.{ℕ}
-use lib.ListN.{length, take, drop}
+use lib.ListN.{length, take}
 use lib.Seq.{take_at}
 use Rattle.laws.proofs.Tests.{test}
-use Rattle.paper.specs.Answer.{Record, Result, Question, Verdict, refused_by, accepted, refused_with, ended_with, ran_to, carried_out, verdict, too_small, bad_depth, result, Lent, Answer, question_of, answer, LentBytes, lent_of}
+use Rattle.paper.specs.Answer.{Record, Question, Verdict, refused_by, accepted, refused_with, ended_with, ran_to, carried_out, verdict, too_small, bad_depth, result, Lent, question_of, answer, LentBytes, lent_of}
 use Rattle.call_screen.specs.declared.Shown.{Shown}
 use Rattle.call_screen.specs.Screen.{record_line, screen_of, Shows}
 

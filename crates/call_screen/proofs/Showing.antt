@@ -2,7 +2,7 @@
 use mathlib.Core.Path.{◌≡◌, refl, sym, ap, ◌∙◌}
 use mathlib.Core.List.{List, [], ◌∷◌, ◌++◌}
 use mathlib.Core.Option.{none}
-use Prim.Native.Nat.{ℕ, ◌+◌, ◌*◌, ◌/◌, ◌%◌, ◌≤◌, ◌<◌}
+use Prim.Native.Nat.{ℕ, ◌/◌, ◌%◌, ◌≤◌, ◌<◌}
 use native.Mathlib.Omega.{arith}
 use lib.ListN.{length, get_or, drop}
 use mir.Syntax.{w32}
@@ -10,16 +10,14 @@ use mir.Val.{Fits}
 use borrow.Author.Tests.{le-ltb}
 use Rattle.paper.specs.Answer.{record_size, Record, low_first, record_bytes, Lent, Answer, answer, LentBytes, BytesAnswer, lent_of, spread, pendant_call}
 use Rattle.paper.specs.Undoing.{plainly}
-use Rattle.paper.specs.Answer as paper
 use Rattle.store_cells.specs.Cells.{cell, cells_of, Got}
 use Rattle.code.proofs.Options.{none-some}
-use Rattle.demands.specs.Vocabulary.{Errno, before-any, latest, ErrorNumber, by-raise, named}
+use Rattle.demands.specs.Vocabulary.{Errno, before-any, latest, by-raise, named}
 use Rattle.demands.specs.Demands.{StepsLent, plain, struck, Allowed, refused, ended, Demand1}
 use Rattle.demands.proofs.Memory.{demand-1}
 use Rattle.demands.proofs.Bytes.{whole_words}
 use Rattle.call_pendant.specs.Calls.{lent, Calls}
-use Rattle.call_screen.specs.declared.Shown.{Shown}
-use Rattle.call_screen.specs.Screen.{line_room, field_list, record_line, low_fields, line_of, PutLine, Lends, Shows}
+use Rattle.call_screen.specs.Screen.{field_list, record_line, low_fields, PutLine, Lends, Shows}
 
 -- ---- a field below 2^32 is its low word
 low_word : (n : ℕ) → n < 4294967296 → cell (n % 256) (n / 256 % 256) (n / 256 / 256 % 256) (n / 256 / 256 / 256 % 256) ≡ n

@@ -5,10 +5,12 @@
 #![tactic(auto)]
 
 ghost use Rattle.std.specs.Prelude.{◌+◌, ◌*◌, ◌≤◌, ◌<◌, length};
+ghost use Rattle.std.specs.Io.{ReadsAtMost};
 ghost use Rattle.call_vectors.specs.Cases.{Lends, Asks};
 
 use layout::limits;
-use libc::{STDIN_FILENO, STDOUT_FILENO};
+use std::io;
+use std::io::{Read, Write};
 
 // The digits of a number, with the byte behind them, and the bytes of a case's first line.
 const DIGITS: usize = 10;
@@ -81,28 +83,46 @@ fn count(s: &[u8], at: usize, most: usize) -> usize
     if n < most { n } else { most }
 }
 
+// Reads until the buffer is full or the input ends. How many bytes stand at its front then.
+fn read_full<R: Read>(reader: &mut R, buf: &mut [u8]) -> io::Result<usize>
+    ensures { ReadsAtMost result buf.new }
+{
+    let mut done = 0;
+    while done < buf.len() {
+        let n = reader.read(&mut buf[done..])?;
+        if n == 0 {
+            break;
+        }
+        done += n;
+    }
+    Ok(done)
+}
+
 // Reads so many inputs into words of 32 bits.
-fn read_inputs(inputs: &mut [u8], n: usize)
+fn read_inputs<R: Read>(reader: &mut R, inputs: &mut [u8], n: usize) -> io::Result<()>
     requires { n * 4 ≤ length inputs.old }
 {
     let mut digits = [0u8; NUMBER];
     let mut i = 0;
     while i < n {
-        io::read_full(STDIN_FILENO, &mut digits);
+        read_full(reader, &mut digits)?;
         store_cells::put(inputs, i, word(&digits, 0));
         i += 1;
     }
+    Ok(())
 }
 
 // Reads so many bytes to the front of what is lent.
-fn read_part(part: &mut [u8], n: usize)
+fn read_part<R: Read>(reader: &mut R, part: &mut [u8], n: usize) -> io::Result<()>
     requires { n ≤ length part.old }
 {
-    io::read_full(STDIN_FILENO, &mut part[..n]);
+    read_full(reader, &mut part[..n])?;
+    Ok(())
 }
 
 // Makes the call, and prints its output and its record.
-fn print_call<'a>(
+fn print_call<'a, W: Write>(
+    writer: &mut W,
     text: &'a [u8],
     steps: u32,
     depth: u32,
@@ -110,19 +130,20 @@ fn print_call<'a>(
     out: &mut [u8],
     code: &mut [u8],
     values: &mut [u8],
-)
+) -> io::Result<()>
     requires { (length text.now < 4294967296) × ((length inputs.now < 4294967296) × (length out.old < 4294967296)) }
 {
     let mut line = [0u8; call_screen::LINE];
     let shown = call_screen::show(text, steps, depth, inputs, out, code, values, &mut line);
     let written = shown.output;
     let told = shown.line;
-    io::write_all(STDOUT_FILENO, &out[..written]);
-    io::write_all(STDOUT_FILENO, &line[..told]);
+    writer.write_all(&out[..written])?;
+    writer.write_all(&line[..told])
 }
 
 // Lends as much as a case asks for, so many bytes of output, of code and of values, and makes the call.
-fn lend<'a>(
+fn lend<'a, W: Write>(
+    writer: &mut W,
     text: &'a [u8],
     steps: u32,
     depth: u32,
@@ -130,13 +151,14 @@ fn lend<'a>(
     room: usize,
     codes: usize,
     worths: usize,
-)
+) -> io::Result<()>
     requires { Lends text.now inputs.now room codes worths }
 {
     let mut out = [0u8; OUTPUT];
     let mut code = [0u8; STORE];
     let mut values = [0u8; STORE];
     print_call(
+        writer,
         text,
         steps,
         depth,
@@ -144,11 +166,13 @@ fn lend<'a>(
         &mut out[..room],
         &mut code[..codes],
         &mut values[..worths],
-    );
+    )
 }
 
 // Reads a case's inputs and its text, which is so long, and runs it.
-fn read_case(
+fn read_case<R: Read, W: Write>(
+    reader: &mut R,
+    writer: &mut W,
     steps: u32,
     depth: u32,
     room: usize,
@@ -156,17 +180,18 @@ fn read_case(
     worths: usize,
     many: usize,
     long: usize,
-)
+) -> io::Result<()>
     requires { Asks room codes worths many long }
 {
     let mut inputs = [0u8; INPUT_BYTES];
-    read_inputs(&mut inputs, many);
+    read_inputs(reader, &mut inputs, many)?;
     let mut text = [0u8; TEXT];
-    read_part(&mut text, long);
+    read_part(reader, &mut text, long)?;
     let mut line_end = [0u8; 1];
-    io::read_full(STDIN_FILENO, &mut line_end);
+    read_full(reader, &mut line_end)?;
     let lent = many * 4;
     lend(
+        writer,
         &text[..long],
         steps,
         depth,
@@ -174,12 +199,14 @@ fn read_case(
         room,
         codes,
         worths,
-    );
+    )
 }
 
 // Reads what a case asks for, and then the rest of it.
-fn run(header: &[u8; HEADER]) {
+fn run<R: Read, W: Write>(reader: &mut R, writer: &mut W, header: &[u8; HEADER]) -> io::Result<()> {
     read_case(
+        reader,
+        writer,
         word(header, 0),
         word(header, DEPTH_AT),
         count(header, OUTPUT_AT, OUTPUT),
@@ -187,17 +214,20 @@ fn run(header: &[u8; HEADER]) {
         count(header, VALUES_AT, STORE),
         count(header, INPUTS_AT, INPUTS),
         count(header, TEXT_AT, TEXT),
-    );
+    )
 }
 
-fn main() {
+fn main(rt: HostRuntime) -> io::Result<()> {
+    let mut reader = rt.stdin();
+    let mut writer = rt.stdout();
     let mut left = CASES;
     while 0 < left {
         let mut header = [0u8; HEADER];
-        if io::read_full(STDIN_FILENO, &mut header) < HEADER {
-            return;
+        if read_full(&mut reader, &mut header)? < HEADER {
+            return Ok(());
         }
-        run(&header);
+        run(&mut reader, &mut writer, &header)?;
         left -= 1;
     }
+    Ok(())
 }

@@ -1,6 +1,0 @@
-use native.Mathlib.Omega.{arith}
-use lib.ListN.{length-take}
-use Rattle.call_vectors.proofs.read_part.Goals as goal
-
-pub slice_bounds-read_full-end-2 : goal.slice_bounds-read_full-end-2
-slice_bounds-read_full-end-2 c = simp length-take (omega arith)
