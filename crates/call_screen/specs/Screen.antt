@@ -1,7 +1,6 @@
 -- "prints the output, then the eight fields of the record": as bytes.
-use Rattle.std.specs.Prelude.{◌≡◌, List, [], ◌∷◌, ◌++◌, ℕ, ◌+◌, ◌≤◌, ◌<◌, eqb, pos, length, get_or, drop}
+use Rattle.std.specs.Prelude.{◌≡◌, List, [], ◌∷◌, ◌++◌, ℕ, ◌+◌, ◌≤◌, ◌<◌, eqb, pos, length, get_or, drop, if◌then◌else◌}
 use Rattle.laws.specs.Lists.{replaced}
-use Rattle.paper.specs.Basics.{if◌then◌else◌}
 use Rattle.paper.specs.Numbers.{decimal}
 use Rattle.paper.specs.Answer.{Record, Result, answer, LentBytes, lent_of, bytes_after}
 use Rattle.store_cells.specs.Cells.{cells_of}

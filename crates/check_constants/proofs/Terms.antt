@@ -14,7 +14,7 @@ use mir.Syntax.{w32}
 use mir.Val.{to_z}
 use borrow.Author.Tests.{eqb-true, le-ltb}
 use Rattle.laws.proofs.Tests.{test, apart}
-use Rattle.paper.specs.Basics.{if◌then◌else◌}
+use Rattle.std.specs.Prelude.{if◌then◌else◌}
 use Rattle.paper.specs.Sorts.{NUMBER, TRUE, FALSE, NOT, plus, minus_sign, times, DIV, MOD, AND, OR, equal, unequal, less, less_equal, greater, greater_equal}
 use Rattle.paper.specs.Words.{Word}
 use Rattle.paper.specs.Numbers.{num, Value, value, error, ranged, add, subtract, multiply, divide, modulo, minus, is_zero, same}

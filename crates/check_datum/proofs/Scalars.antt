@@ -13,7 +13,7 @@ use mir.Val.{Fits, to_z, of_z}
 use mir.Facts.{to_z-of_z}
 use borrow.Author.Tests.{ne_eqb}
 use Rattle.laws.proofs.Tests.{test, by-same, false-true}
-use Rattle.paper.specs.Basics.{if◌then◌else◌}
+use Rattle.std.specs.Prelude.{if◌then◌else◌}
 use Rattle.paper.specs.Sorts.{CONST, open_brace, becomes}
 use Rattle.paper.specs.Words.{Word, word_limit}
 use Rattle.paper.specs.Terms.{Ref, Memory, load}

@@ -1,6 +1,5 @@
 -- The parts of a declaration of data.
-use Rattle.std.specs.Prelude.{◌≡◌, List, ℕ, ◌+◌, ◌*◌, ◌<◌, eqb, get_or, ℤ}
-use Rattle.paper.specs.Basics.{if◌then◌else◌}
+use Rattle.std.specs.Prelude.{◌≡◌, List, ℕ, ◌+◌, ◌*◌, ◌<◌, eqb, get_or, ℤ, if◌then◌else◌}
 use Rattle.paper.specs.Sorts.{CONST, becomes}
 use Rattle.paper.specs.Words.{word_limit}
 use Rattle.store_cells.specs.Cells.{cells_of}

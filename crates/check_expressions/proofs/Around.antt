@@ -11,7 +11,7 @@ use borrow.Author.Tests.{eqb-true, eqb-false, le-leb, leb-true, leb-false}
 use mir.Syntax.{w64}
 use mir.Val.{Fits}
 use Rattle.laws.proofs.Tests.{test, by-same, by_last, by_most, false-true}
-use Rattle.paper.specs.Basics.{if◌then◌else◌}
+use Rattle.std.specs.Prelude.{if◌then◌else◌}
 use Rattle.paper.specs.Sorts.{NOT}
 use Rattle.paper.specs.Words.{word_limit}
 use Rattle.paper.specs.Terms.{Ref, of_module, of_routine, Term, element_at, unary, binary}

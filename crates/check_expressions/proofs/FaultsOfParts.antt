@@ -8,7 +8,7 @@ use native.Mathlib.Omega.{arith}
 use lib.Dec.{eqb, leb}
 use borrow.Author.Tests.{eqb-true, eqb-false, leb-true, leb-false, le-leb, lt-leb, eq-eqb, ne_eqb}
 use Rattle.laws.proofs.Tests.{test, apart, false-true}
-use Rattle.paper.specs.Basics.{if◌then◌else◌}
+use Rattle.std.specs.Prelude.{if◌then◌else◌}
 use Rattle.paper.specs.Sorts.{NOT, equal, unequal}
 use Rattle.paper.specs.Terms.{Ref, Term, element_at, unary, binary}
 use Rattle.paper.specs.Trees.{Expr, first}

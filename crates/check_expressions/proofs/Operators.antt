@@ -7,7 +7,7 @@ use native.Mathlib.Omega.{arith}
 use lib.Dec.{eqb, leb}
 use borrow.Author.Tests.{eqb-true, eqb-false, ne_eqb, eq-eqb, le-leb, lt-leb}
 use Rattle.laws.proofs.Tests.{test, false-true}
-use Rattle.paper.specs.Basics.{if◌then◌else◌}
+use Rattle.std.specs.Prelude.{if◌then◌else◌}
 use Rattle.paper.specs.Sorts.{NOT, AND, DIV, MOD, OR, XOR, plus, minus_sign, times, equal, less, less_equal, unequal, greater, greater_equal}
 use Rattle.paper.specs.Expressions.{relations, conjunctions, level_of}
 use Rattle.paper.specs.Names.{DataType, a_num, a_bool}

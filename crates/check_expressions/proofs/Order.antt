@@ -8,7 +8,7 @@ use native.Mathlib.Omega.{arith}
 use lib.Dec.{eqb}
 use borrow.Author.Tests.{ne_eqb, lt-ltb}
 use Rattle.laws.proofs.Tests.{test}
-use Rattle.paper.specs.Basics.{if◌then◌else◌}
+use Rattle.std.specs.Prelude.{if◌then◌else◌}
 use Rattle.paper.specs.Sorts.{NUMBER, TRUE, FALSE, NOT}
 use Rattle.paper.specs.Words.{Word}
 use Rattle.paper.specs.Terms.{Term, element_at, unary, binary}

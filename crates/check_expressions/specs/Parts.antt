@@ -1,7 +1,6 @@
 -- The parts of the check of an expression.
-use Rattle.std.specs.Prelude.{◌≡◌, Bool, true, false, ◌||◌, List, [], ℕ, suc, ◌+◌, ◌*◌, ◌<◌, ◌≤◌, eqb, leb, length}
+use Rattle.std.specs.Prelude.{◌≡◌, Bool, true, false, ◌||◌, List, [], ℕ, suc, ◌+◌, ◌*◌, ◌<◌, ◌≤◌, eqb, leb, length, if◌then◌else◌}
 use Rattle.std.proofs.Math.Option.{some}
-use Rattle.paper.specs.Basics.{if◌then◌else◌}
 use Rattle.paper.specs.Sorts.{NUMBER, NOT, plus, minus_sign, equal, unequal}
 use Rattle.paper.specs.Words.{Word, word_limit}
 use Rattle.paper.specs.Trees.{Expr, first}

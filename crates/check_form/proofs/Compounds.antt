@@ -7,7 +7,7 @@ use native.Mathlib.Omega.{arith}
 use lib.Dec.{eqb}
 use borrow.Author.Tests.{eqb-true, eqb-false, eq-eqb, ne_eqb}
 use Rattle.laws.proofs.Tests.{test, by_less, apart, false-true}
-use Rattle.paper.specs.Basics.{if◌then◌else◌}
+use Rattle.std.specs.Prelude.{if◌then◌else◌}
 use Rattle.paper.specs.Expressions.{starts_simple}
 use Rattle.check_form.specs.declared.Read.{Read}
 use Rattle.check_form.specs.declared.Read.TheVariants.{Upto, Refused}

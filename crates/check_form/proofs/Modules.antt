@@ -8,7 +8,7 @@ use native.Mathlib.Omega.{arith}
 use lib.Dec.{eqb}
 use borrow.Author.Tests.{eqb-true, eqb-false, eq-eqb, ne_eqb}
 use Rattle.laws.proofs.Tests.{test, false-true}
-use Rattle.paper.specs.Basics.{if◌then◌else◌}
+use Rattle.std.specs.Prelude.{if◌then◌else◌}
 use Rattle.paper.specs.Trees.{Expr, Statement, Statements, Content, Declared, Parameter, Module}
 use Rattle.paper.specs.Expressions as paper
 use Rattle.paper.specs.Expressions.{Parsed, Parser, got, no, ◌>>=◌, starts_simple, starts_statement, starts_data, starts_routine, parts}

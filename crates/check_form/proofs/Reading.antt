@@ -10,7 +10,7 @@ use mir.Syntax.{w64}
 use mir.Val.{Fits}
 use borrow.Author.Tests.{lt-ltb, le-ltb, eqb-true, eq-eqb, ne_eqb}
 use Rattle.laws.proofs.Tests.{by_less}
-use Rattle.paper.specs.Basics.{if◌then◌else◌}
+use Rattle.std.specs.Prelude.{if◌then◌else◌}
 use Rattle.paper.specs.Expressions.{level_of}
 use Rattle.store_cells.specs.Cells.{cells_of}
 use Rattle.check_form.specs.declared.Read.{Read}

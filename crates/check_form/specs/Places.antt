@@ -1,7 +1,6 @@
 -- How the paper's parser goes over the words, by places alone: its definitions without the trees, in its order.
-use Rattle.std.specs.Prelude.{Bool, true, false, ◌||◌, ◌&&◌, List, ℕ, zero, suc, ◌+◌, ◌*◌, ◌-◌, ◌%◌, ◌≤◌, eqb, ltb, length, get_or}
+use Rattle.std.specs.Prelude.{Bool, true, false, ◌||◌, ◌&&◌, List, ℕ, zero, suc, ◌+◌, ◌*◌, ◌-◌, ◌%◌, ◌≤◌, eqb, ltb, length, get_or, if◌then◌else◌}
 use Rattle.std.proofs.Math.Option.{Option, none, some}
-use Rattle.paper.specs.Basics.{if◌then◌else◌}
 use Rattle.paper.specs.Sorts.{NOTHING, NAME, STRING, semicolon, comma, open_paren, close_paren, open_brace, close_brace, colon, becomes, plus, minus_sign, backslash}
 use Rattle.paper.specs.Sorts.{CASE, CONST, DEFAULT, DO, ELSE, ELSEIF, ENDFOR, ENDFUNC, ENDIF, ENDMODULE, ENDPROC, ENDTEST, ENDWHILE, ERROR, EXIT, FOR, FROM, FUNC, IF, MODULE, NOT, PROC, RAISE, RETRY, RETURN, STEP, TEST, THEN, TO, TRYNEXT, UNDO, VAR, WHILE, NUM, TPWRITE, TPREADNUM}
 use Rattle.paper.specs.Words.{word_limit}
@@ -62,7 +61,7 @@ module _ (W : ℕ → ℕ) where
 
   unfoldable pub chain_turn : (j : ℕ) → (sub again : ℕ → Read) → ℕ → Read
   chain_turn j sub again at =
-      if eqb (level_of (W at)) j then (if eqb j relations then sub (at + 1) else sub (at + 1) ▸ again) else Upto at
+      if eqb (level_of (W at)) j then (if eqb j relations then sub (at + 1) else (sub (at + 1) ▸ again)) else Upto at
 
   unfoldable pub chain : (j : ℕ) → (sub : ℕ → Read) → ℕ → Read
   chain j sub = turns (chain_turn j sub) parts
@@ -155,16 +154,16 @@ module _ (W : ℕ → ℕ) where
   arm_end at =
       if eqb (W at) ELSEIF then expression (at + 1) ▸ word THEN ▹ part.Inside ELSEIF
       else if eqb (W at) ELSE then part.Inside ENDIF (at + 1)
-      else word ENDIF at ▹ part.Whole
+      else (word ENDIF at ▹ part.Whole)
 
   unfoldable pub case_end : ℕ → Part
   case_end at =
       if eqb (W at) CASE then expressions (at + 1) ▸ word colon ▹ part.Inside CASE
       else if eqb (W at) DEFAULT then word colon (at + 1) ▹ part.Inside ENDTEST
-      else word ENDTEST at ▹ part.Whole
+      else (word ENDTEST at ▹ part.Whole)
 
   unfoldable pub list_end : (closing : ℕ) → ℕ → Part
-  list_end c at = if eqb c ELSEIF then arm_end at else if eqb c CASE then case_end at else word c at ▹ part.Whole
+  list_end c at = if eqb c ELSEIF then arm_end at else if eqb c CASE then case_end at else (word c at ▹ part.Whole)
 
   unfoldable pub step_part : ℕ → Read
   step_part at = if eqb (W at) STEP then expression (at + 1) else Upto at
@@ -174,7 +173,7 @@ module _ (W : ℕ → ℕ) where
 
   unfoldable pub condition : (deeper : ℕ) → ℕ → Part
   condition d at =
-      if eqb (W at) THEN then (if eqb d 0 then part.Refused deep_nesting at else part.Inside ELSEIF (at + 1)) else simple at ▹ part.Whole
+      if eqb (W at) THEN then (if eqb d 0 then part.Refused deep_nesting at else part.Inside ELSEIF (at + 1)) else (simple at ▹ part.Whole)
 
   unfoldable pub if_head : (deeper : ℕ) → ℕ → Part
   if_head d at = expression at ▹ condition d
@@ -196,7 +195,7 @@ module _ (W : ℕ → ℕ) where
 
   unfoldable pub after_arm : (list again : ℕ → Read) → ℕ → Read
   after_arm list again at =
-      if eqb (W at) ELSEIF then expression (at + 1) ▸ word THEN ▸ again else else_part list at ▸ word ENDIF
+      if eqb (W at) ELSEIF then expression (at + 1) ▸ word THEN ▸ again else (else_part list at ▸ word ENDIF)
 
   unfoldable pub arms_turn : (list again : ℕ → Read) → ℕ → Read
   arms_turn list again at = list at ▸ after_arm list again
@@ -209,7 +208,7 @@ module _ (W : ℕ → ℕ) where
 
   unfoldable pub cases_turn : (list again : ℕ → Read) → ℕ → Read
   cases_turn list again at =
-      if eqb (W at) CASE then expressions (at + 1) ▸ word colon ▸ list ▸ again else default_part list at ▸ word ENDTEST
+      if eqb (W at) CASE then expressions (at + 1) ▸ word colon ▸ list ▸ again else (default_part list at ▸ word ENDTEST)
 
   unfoldable pub cases : (list : ℕ → Read) → ℕ → Read
   cases list = turns (cases_turn list) parts

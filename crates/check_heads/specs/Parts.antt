@@ -1,6 +1,5 @@
 -- The parts of reading the heads.
-use Rattle.std.specs.Prelude.{◌≡◌, Bool, true, false, ◌||◌, List, [], ℕ, ◌+◌, ◌*◌, ◌<◌, ◌≤◌, eqb, length, get_or}
-use Rattle.paper.specs.Basics.{if◌then◌else◌}
+use Rattle.std.specs.Prelude.{◌≡◌, Bool, true, false, ◌||◌, List, [], ℕ, ◌+◌, ◌*◌, ◌<◌, ◌≤◌, eqb, length, get_or, if◌then◌else◌}
 use Rattle.paper.specs.Sorts.{bytes, equal_texts, close_paren, FUNC}
 use Rattle.paper.specs.Words.{Word, word_limit}
 use Rattle.paper.specs.Trees.{Declared, Parameter, Routine, Module}

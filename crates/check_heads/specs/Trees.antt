@@ -1,7 +1,6 @@
 -- What is known of a module before its declarations, by its tree.
-use Rattle.std.specs.Prelude.{◌||◌, List, [], ◌∷◌, ℕ, zero, suc, ◌+◌, ◌-◌, eqb, length}
+use Rattle.std.specs.Prelude.{◌||◌, List, [], ◌∷◌, ℕ, zero, suc, ◌+◌, ◌-◌, eqb, length, if◌then◌else◌}
 use Rattle.std.proofs.Math.Option.{none, some}
-use Rattle.paper.specs.Basics.{if◌then◌else◌}
 use Rattle.paper.specs.Words.{Word}
 use Rattle.paper.specs.Trees.{Parameter, Routine, Module}
 use Rattle.paper.specs.Names.{DataType, refused_piece, type_of, Text, Scopes, spelled, is_among, cannot_declare}

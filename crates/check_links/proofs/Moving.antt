@@ -10,7 +10,7 @@ use lib.Dec.{eqb, ltb, leb}
 use lib.ListN.{length, get_or}
 use borrow.Author.Tests.{eq-eqb, ne_eqb, lt-ltb, le-ltb, ltb-true, leb-true, le-leb}
 use Rattle.laws.proofs.Tests.{test, by_less, by-same, false-true, apart}
-use Rattle.paper.specs.Basics.{if◌then◌else◌}
+use Rattle.std.specs.Prelude.{if◌then◌else◌}
 use Rattle.paper.specs.Terms.{Term, of_module, of_routine}
 use Rattle.paper.specs.Trees.{Expr, Target, Simple, first_simple, assign, assign_call, call, returns, raises, exits, retries, tries_next, writes, reads}
 use Rattle.paper.specs.Names.{Scopes}

@@ -1,7 +1,6 @@
 -- What resolving does to the code store. As the walk leaves them, links lead to the next word of the text; afterwards they lead to the next step: what leads
 -- to a word that only closes a list leads on to where that list goes on.
-use Rattle.std.specs.Prelude.{◌≡◌, Bool, true, false, not, List, ℕ, ◌+◌, ◌*◌, ◌<◌, ◌≤◌, eqb, ltb, length, drop}
-use Rattle.paper.specs.Basics.{if◌then◌else◌}
+use Rattle.std.specs.Prelude.{◌≡◌, Bool, true, false, not, List, ℕ, ◌+◌, ◌*◌, ◌<◌, ◌≤◌, eqb, ltb, length, drop, if◌then◌else◌}
 use Rattle.store_cells.specs.Cells.{cells_of}
 use Rattle.code.specs.Cells.{head_at, tail_at, op_at, value_at, place_at, link_at}
 use Rattle.code.specs.Steps.{a_target, a_procedure_call, an_end, a_function_end, an_undo_end, an_else_if, a_case, a_next_value, a_then, a_do, a_pass, an_otherwise, a_close}

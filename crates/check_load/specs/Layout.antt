@@ -1,7 +1,6 @@
 -- What the cells of both stores hold, when the first n words of a text are loaded.
-use Rattle.std.specs.Prelude.{◌≡◌, Bool, true, false, List, map, ℕ, zero, suc, ◌+◌, ◌*◌, ◌<◌, ◌≤◌, eqb, ltb, length, get_or, take, drop}
+use Rattle.std.specs.Prelude.{◌≡◌, Bool, true, false, List, map, ℕ, zero, suc, ◌+◌, ◌*◌, ◌<◌, ◌≤◌, eqb, ltb, length, get_or, take, drop, if◌then◌else◌}
 use Rattle.store_cells.specs.Cells.{cells_of}
-use Rattle.paper.specs.Basics.{if◌then◌else◌}
 use Rattle.paper.specs.Sorts.{folded, NAME, STRING}
 use Rattle.paper.specs.Words.{Word, reading, text_limit, word_limit, name_limit, largest_number}
 use Rattle.paper.specs.Names.{Text, nth, sort_in, spelled}

@@ -1,6 +1,5 @@
 -- What a cell of the table of meanings says, and when the table says what the paper's scopes say.
-use Rattle.std.specs.Prelude.{◌≡◌, Bool, List, [], map, ℕ, ◌+◌, ◌*◌, ◌/◌, ◌%◌, eqb, leb, get_or}
-use Rattle.paper.specs.Basics.{if◌then◌else◌}
+use Rattle.std.specs.Prelude.{◌≡◌, Bool, List, [], map, ℕ, ◌+◌, ◌*◌, ◌/◌, ◌%◌, eqb, leb, get_or, if◌then◌else◌}
 use Rattle.paper.specs.Words.{Word}
 use Rattle.paper.specs.Terms.{Ref, of_module, of_routine}
 use Rattle.paper.specs.Names.{DataType, a_num, a_bool, Meaning, unknown, variable, array, constant, loop, the_routine, the_errno, error_number, Text, text_of, Scopes, spelled, look_in, protected, is_among, meaning}

@@ -9,7 +9,7 @@ use lib.Dec.{eqb}
 use lib.ListN.{length, get_or}
 use borrow.Author.Tests.{eq-eqb, ne_eqb}
 use Rattle.laws.proofs.Tests.{test, false-true}
-use Rattle.paper.specs.Basics.{if◌then◌else◌}
+use Rattle.std.specs.Prelude.{if◌then◌else◌}
 use Rattle.paper.specs.Sorts.{NAME, FUNC}
 use Rattle.paper.specs.Names.{DataType, Meaning, the_routine, uses_of, routine_in, wrong_name, spelled, meaning, sort_in}
 use Rattle.paper.specs.Types.{fault}

@@ -1,7 +1,6 @@
 -- The parts of the check of a simple statement.
-use Rattle.std.specs.Prelude.{◌≡◌, Bool, true, false, not, List, [], ◌∷◌, ◌++◌, map, ℕ, ◌+◌, ◌*◌, ◌-◌, ◌<◌, ◌≤◌, eqb, length, get_or, take, drop}
+use Rattle.std.specs.Prelude.{◌≡◌, Bool, true, false, not, List, [], ◌∷◌, ◌++◌, map, ℕ, ◌+◌, ◌*◌, ◌-◌, ◌<◌, ◌≤◌, eqb, length, get_or, take, drop, if◌then◌else◌}
 use Rattle.std.proofs.Math.Option.{none, some}
-use Rattle.paper.specs.Basics.{if◌then◌else◌}
 use Rattle.paper.specs.Sorts.{NAME, STRING, comma, semicolon, open_paren, close_paren, open_brace, becomes, FUNC}
 use Rattle.paper.specs.Words.{QUOTE, Word, word_limit}
 use Rattle.paper.specs.Terms.{Term}

@@ -1,6 +1,5 @@
 -- The hash of a name. Nobody has to believe it: no promise speaks of it.
-use Rattle.std.specs.Prelude.{List, ℕ, zero, suc, ◌+◌, ◌-◌, ◌*◌, ◌/◌, ◌%◌, ltb, length, get_or}
-use Rattle.paper.specs.Basics.{if◌then◌else◌}
+use Rattle.std.specs.Prelude.{List, ℕ, zero, suc, ◌+◌, ◌-◌, ◌*◌, ◌/◌, ◌%◌, ltb, length, get_or, if◌then◌else◌}
 
 -- how many buckets there are
 abbrev pub buckets : ℕ

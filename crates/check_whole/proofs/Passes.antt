@@ -13,7 +13,7 @@ use mir.Syntax.{w32}
 use mir.Val.{to_z}
 use borrow.Author.Tests.{ltb-true, ltb-false}
 use Rattle.laws.proofs.Tests.{test, apart}
-use Rattle.paper.specs.Basics.{if◌then◌else◌}
+use Rattle.std.specs.Prelude.{if◌then◌else◌}
 use Rattle.paper.specs.Words.{Word, Refusal, reading, word_limit}
 use Rattle.paper.specs.Trees.{Module}
 use Rattle.paper.specs.Expressions.{Parsed, got, no}

@@ -8,7 +8,7 @@ use native.Mathlib.Omega.{arith}
 use lib.Dec.{eqb}
 use lib.ListN.{length, get_or}
 use Rattle.laws.proofs.Tests.{test}
-use Rattle.paper.specs.Basics.{if◌then◌else◌}
+use Rattle.std.specs.Prelude.{if◌then◌else◌}
 use Rattle.paper.specs.Sorts.{FUNC}
 use Rattle.paper.specs.Names.{DataType, refused_piece, type_of}
 use Rattle.paper.specs.Declarations.{Signature}

@@ -1,7 +1,6 @@
 -- What the cells say of the module's routines before their lists are checked: all that a call has to know of its callee.
-use Rattle.std.specs.Prelude.{◌≡◌, List, [], ◌∷◌, ℕ, zero, suc, ◌+◌, ◌*◌, ◌<◌, ◌≤◌, eqb, length, get_or}
+use Rattle.std.specs.Prelude.{◌≡◌, List, [], ◌∷◌, ℕ, zero, suc, ◌+◌, ◌*◌, ◌<◌, ◌≤◌, eqb, length, get_or, if◌then◌else◌}
 use Rattle.std.proofs.Math.Option.{Option, none, some}
-use Rattle.paper.specs.Basics.{if◌then◌else◌}
 use Rattle.paper.specs.Sorts.{FUNC}
 use Rattle.paper.specs.Words.{word_limit}
 use Rattle.paper.specs.Names.{DataType, refused_piece, type_of}

@@ -1,10 +1,9 @@
 -- What the code store says of expressions. An expression stands in a span of words: an operand, and then operators, each with its right side. A word that
 -- opens something knows where it ends.
-use Rattle.std.specs.Prelude.{Bool, true, false, List, [], ◌∷◌, map, ℕ, zero, suc, ◌+◌, ◌-◌, ◌*◌, ◌/◌, ◌%◌, eqb, ltb, leb, get_or, take, drop, pos, ◌-ℤ◌}
+use Rattle.std.specs.Prelude.{Bool, true, false, List, [], ◌∷◌, map, ℕ, zero, suc, ◌+◌, ◌-◌, ◌*◌, ◌/◌, ◌%◌, eqb, ltb, leb, get_or, take, drop, pos, ◌-ℤ◌, if◌then◌else◌}
 use Rattle.std.proofs.Math.Option.{Option, none, some}
 use Rattle.std.specs.Int.{w32}
 use Rattle.std.proofs.Common.{to_z}
-use Rattle.paper.specs.Basics.{if◌then◌else◌}
 use Rattle.paper.specs.Expressions.{nestings}
 use Rattle.paper.specs.Sorts.{equal, less, less_equal, unequal, greater, greater_equal, plus, minus_sign, times, DIV, MOD, AND, OR, NOT, XOR}
 use Rattle.paper.specs.Terms.{of_module, of_routine, Term, literal, errno, stored, element_at, unary, binary, Memory}

@@ -10,7 +10,7 @@ use lib.IntN.{ℤ, pos, negsuc, neg_ℤ, nat_abs, suc_ℤ, pred_ℤ, ◌+ℤ◌,
 use lib.Signed.{lt_z}
 use borrow.Author.Tests.{lt-ltb, le-ltb, le-leb, lt-leb}
 use Rattle.laws.proofs.Tests.{by_less, test, false-true}
-use Rattle.paper.specs.Basics.{if◌then◌else◌}
+use Rattle.std.specs.Prelude.{if◌then◌else◌}
 use Rattle.paper.specs.Numbers.{Value, value}
 use Rattle.paper.specs.Terms.{worth}
 use Rattle.paper.specs.Steps.{Program, enter_for}

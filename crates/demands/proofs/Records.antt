@@ -9,7 +9,7 @@ use lib.Dec.{eqb}
 use lib.ListN.{length, get_or, get_or-eq_default}
 use borrow.Author.Tests.{lt-ltb, le-ltb, eq-eqb, ne_eqb}
 use Rattle.laws.proofs.Tests.{apart, by_less, by-same}
-use Rattle.paper.specs.Basics.{if◌then◌else◌}
+use Rattle.std.specs.Prelude.{if◌then◌else◌}
 use Rattle.paper.specs.Sorts.{NAME, bytes}
 use Rattle.paper.specs.Words.{text_limit, Word, Refusal, reading}
 use Rattle.paper.specs.Trees.{Routine, Module}

@@ -7,7 +7,7 @@ use Prim.Native.Nat.{ℕ, zero, suc, ◌≤◌, ◌<◌}
 use native.Mathlib.Omega.{arith}
 use lib.Dec.{eqb, ltb}
 use borrow.Author.Tests.{eqb-true, ne_eqb, ltb-true, ltb-false}
-use Rattle.paper.specs.Basics.{if◌then◌else◌}
+use Rattle.std.specs.Prelude.{if◌then◌else◌}
 use Rattle.paper.specs.Steps.{Program}
 use Rattle.paper.specs.States.{Call, State, Rooms, Effect, with_calls}
 use Rattle.paper.specs.Running.{Ended, Outcome, goes_on, stopped, stopping, settled, take_step, next_step, perform, run}

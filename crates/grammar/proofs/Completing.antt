@@ -9,7 +9,7 @@ use native.Mathlib.Omega.{arith}
 use lib.Dec.{eqb}
 use borrow.Author.Tests.{eqb-true, eq-eqb, ne_eqb}
 use Rattle.laws.proofs.Tests.{false-true}
-use Rattle.paper.specs.Basics.{if◌then◌else◌}
+use Rattle.std.specs.Prelude.{if◌then◌else◌}
 use Rattle.paper.specs.Sorts.{NAME, STRING, NUM, NOTHING, CONST, close_brace, close_paren, open_brace, open_paren, comma, semicolon, becomes, colon, backslash, CASE, DEFAULT, DO, ELSE, ELSEIF, ENDFOR}
 use Rattle.paper.specs.Sorts.{ENDFUNC, ENDIF, ENDMODULE, ENDPROC, ENDTEST, ENDWHILE, ERROR, EXIT, FROM, MODULE, PROC, RAISE, RETRY, RETURN, STEP, THEN, TO, TPREADNUM, TPWRITE, TRYNEXT, UNDO, VAR}
 use Rattle.paper.specs.Trees.{Expr, Target, Simple, assign, assign_call, call, returns, raises, writes, reads, Statement, Statements, Arms, Cases, simple, compact_if, full_if, for, while, test, ◌then◌, Content, Declared, Parameter, RoutineList, Routine, Module}

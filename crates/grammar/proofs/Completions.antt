@@ -9,7 +9,7 @@ use native.Mathlib.Omega.{arith}
 use lib.Dec.{eqb}
 use borrow.Author.Tests.{eq-eqb}
 use Rattle.laws.proofs.Tests.{test, by_less, by-same, false-true}
-use Rattle.paper.specs.Basics.{if◌then◌else◌}
+use Rattle.std.specs.Prelude.{if◌then◌else◌}
 use Rattle.paper.specs.Sorts.{NOTHING, NUM}
 use Rattle.paper.specs.Words.{word_limit}
 use Rattle.paper.specs.Expressions.{Parsed, got, no, ◌>>=◌, is_type, expect, expect_type}

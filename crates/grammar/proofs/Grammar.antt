@@ -9,7 +9,7 @@ use lib.Dec.{eqb, ltb}
 use lib.ListN.{get_or}
 use borrow.Author.Tests.{eq-eqb, lt-ltb, le-ltb}
 use Rattle.laws.proofs.Tests.{test, by_less, false-true}
-use Rattle.paper.specs.Basics.{if◌then◌else◌}
+use Rattle.std.specs.Prelude.{if◌then◌else◌}
 use Rattle.paper.specs.Sorts.{NOTHING, NAME, NUM, VAR, MODULE, ENDMODULE, semicolon}
 use Rattle.paper.specs.Words.{word_limit}
 use Rattle.paper.specs.Trees.{Expr, variable_data, Module}

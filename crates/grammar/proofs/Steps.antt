@@ -5,7 +5,7 @@ use Prim.Native.Nat.{ℕ, ◌+◌}
 use lib.Dec.{eqb}
 use borrow.Author.Tests.{eq-eqb}
 use Rattle.laws.proofs.Tests.{false-true}
-use Rattle.paper.specs.Basics.{if◌then◌else◌}
+use Rattle.std.specs.Prelude.{if◌then◌else◌}
 use Rattle.paper.specs.Expressions.{Parsed, got, no, ◌>>=◌, is_type, expect, expect_type}
 
 -- p comes to r; or, where D lets it, p refuses a nesting; or its fuel ends at a word that T lets it end at.

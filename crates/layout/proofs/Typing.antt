@@ -7,7 +7,7 @@ use native.Mathlib.Omega.{arith}
 use lib.Dec.{eqb}
 use borrow.Author.Tests.{eqb-true}
 use Rattle.laws.proofs.Tests.{test, apart}
-use Rattle.paper.specs.Basics.{if◌then◌else◌}
+use Rattle.std.specs.Prelude.{if◌then◌else◌}
 use Rattle.paper.specs.Names.{DataType, a_num, a_bool, refused_piece}
 use Rattle.paper.specs.Types.{differs}
 use Rattle.layout.specs.Types.{no_type, num_type, bool_type, type_in, type_code, IsType}

@@ -1,7 +1,6 @@
 -- Types as the check counts them: of an expression, and of what a routine gives back. Numbers from 3 on are free.
-use Rattle.std.specs.Prelude.{◌≡◌, ℕ, eqb}
+use Rattle.std.specs.Prelude.{◌≡◌, ℕ, eqb, if◌then◌else◌}
 use Rattle.std.proofs.Math.Option.{Option, none, some}
-use Rattle.paper.specs.Basics.{if◌then◌else◌}
 use Rattle.paper.specs.Names.{DataType, a_num, a_bool, refused_piece}
 
 -- a PROC gives nothing back

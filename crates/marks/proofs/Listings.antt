@@ -8,7 +8,7 @@ use native.Mathlib.Omega.{arith}
 use lib.Dec.{eqb}
 use lib.ListN.{length, get_or, length-map}
 use Rattle.laws.proofs.Tests.{test, apart}
-use Rattle.paper.specs.Basics.{if◌then◌else◌}
+use Rattle.std.specs.Prelude.{if◌then◌else◌}
 use Rattle.paper.specs.Running.{Ended, run, started}
 use Rattle.paper.specs.Undoing.{Asked, plainly, run_abort, run_asked}
 use Rattle.paper.specs.Answer.{Accepted, Verdict, refused_by, accepted, offset_of, verdict, Question, Result, refused_with, ended_with, ran_to, carried_out, too_small, bad_depth, result}

@@ -1,7 +1,6 @@
 -- Request 6, "UNDO lists and moving the pointer to main": a run that is aborted at a step.
-use Rattle.std.specs.Prelude.{true, false, List, [], ◌∷◌, ℕ, zero, suc, eqb, ltb}
+use Rattle.std.specs.Prelude.{true, false, List, [], ◌∷◌, ℕ, zero, suc, eqb, ltb, if◌then◌else◌}
 use Rattle.std.proofs.Math.Option.{Option, none, some}
-use Rattle.paper.specs.Basics.{if◌then◌else◌}
 use Rattle.paper.specs.Steps.{Program}
 use Rattle.paper.specs.States.{Call, State, Rooms, with_calls, with_errno, counted, go_to, Effect, made, failing, handing, ending, lacking}
 use Rattle.paper.specs.Running.{code_at, next_step, perform, Ended, Outcome, goes_on, stopped, stopping, run}

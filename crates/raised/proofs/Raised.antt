@@ -7,7 +7,7 @@ use lib.IntN.{ℤ, pos, negsuc}
 use lib.Dec.{eqb, ltb}
 use lib.Signed.{lt_z}
 use borrow.Author.Tests.{ltb-false}
-use Rattle.paper.specs.Basics.{if◌then◌else◌}
+use Rattle.std.specs.Prelude.{if◌then◌else◌}
 use Rattle.paper.specs.Numbers.{Range, Value, value, error, ranged, add, subtract, multiply, minus, divide, modulo, is_zero, num, overflow, div_zero, out_of_bound, ill_raise}
 use Rattle.paper.specs.Terms.{Term, literal, errno, stored, element_at, unary, binary, Memory, Ref, Located, at, fails, locate, load_from, applied, operated, known, combined, worth}
 use Rattle.paper.specs.Sorts.{NOT, minus_sign, plus, times, DIV, MOD, AND, OR, equal, unequal, less, less_equal, greater, greater_equal}

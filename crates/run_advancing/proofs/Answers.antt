@@ -14,7 +14,7 @@ use mir.Val.{Fits, SFits}
 use mir.Facts.{to_z-of_z}
 use borrow.Author.Tests.{lt-ltb, le-ltb, ltb-true, ltb-false, ne_eqb}
 use Rattle.laws.proofs.Tests.{by_less, false-true}
-use Rattle.paper.specs.Basics.{if◌then◌else◌}
+use Rattle.std.specs.Prelude.{if◌then◌else◌}
 use Rattle.store_numbers.proofs.Whole.{read}
 use Rattle.store_cells.specs.Cells.{cells_of}
 use Rattle.code.specs.Windows.{written_cell, written_in}

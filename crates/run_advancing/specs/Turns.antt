@@ -1,7 +1,6 @@
 -- What a whole step asks, and what it promises: it is the paper's, of a run or, once that is aborted, of its UNDO lists.
-use Rattle.std.specs.Prelude.{◌≡◌, Bool, true, false, ◌||◌, List, [], ◌∷◌, ℕ, ◌+◌, ◌<◌, ◌≤◌, eqb, length, drop, ℤ, pos}
+use Rattle.std.specs.Prelude.{◌≡◌, Bool, true, false, ◌||◌, List, [], ◌∷◌, ℕ, ◌+◌, ◌<◌, ◌≤◌, eqb, length, drop, ℤ, pos, if◌then◌else◌}
 use Rattle.std.specs.Int.Signed.{lt_z}
-use Rattle.paper.specs.Basics.{if◌then◌else◌}
 use Rattle.paper.specs.Steps.{Program}
 use Rattle.paper.specs.States.{Call, State, Rooms, with_calls, Effect, failing, handing, ending, lacking}
 use Rattle.paper.specs.Running.{Outcome, goes_on, stopped, stopping, settled, take_step}

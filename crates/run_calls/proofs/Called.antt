@@ -13,7 +13,7 @@ use mir.Syntax.{w64}
 use mir.Val.{Fits, to_z}
 use mir.ValLaws.{to_z_pos}
 use borrow.Author.Tests.{lt-ltb, le-ltb, ltb-true, ltb-false}
-use Rattle.paper.specs.Basics.{if◌then◌else◌}
+use Rattle.std.specs.Prelude.{if◌then◌else◌}
 use Rattle.paper.specs.Terms.{Term, Memory}
 use Rattle.paper.specs.States.{Location, State, Rooms, Effect, made, failing, lacking, with_calls, memory_of, with_values}
 use Rattle.paper.specs.Steps.{Code}

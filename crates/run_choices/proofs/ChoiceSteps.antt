@@ -13,7 +13,7 @@ use mir.Val.{SFits, to_z, of_z}
 use mir.Facts.{to_z-of_z}
 use borrow.Author.Tests.{ltb-false}
 use Rattle.laws.proofs.Tests.{false-true}
-use Rattle.paper.specs.Basics.{if◌then◌else◌}
+use Rattle.std.specs.Prelude.{if◌then◌else◌}
 use Rattle.paper.specs.Numbers.{Value, is_zero, ill_raise}
 use Rattle.paper.specs.Terms.{Term, worth}
 use Rattle.paper.specs.Steps.{Action, Step, choose, test_while, raise}

@@ -13,7 +13,7 @@ use mir.Val.{SFits, to_z, of_z}
 use mir.Facts.{to_z-of_z}
 use mir.ValLaws.{to_z_pos}
 use Rattle.laws.proofs.Tests.{by-same, apart}
-use Rattle.paper.specs.Basics.{if◌then◌else◌}
+use Rattle.std.specs.Prelude.{if◌then◌else◌}
 use Rattle.paper.specs.Numbers.{Value, error}
 use Rattle.paper.specs.Terms.{Term, Memory, worth}
 use Rattle.paper.specs.Steps.{Code, Action, enter_for}

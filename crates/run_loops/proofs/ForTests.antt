@@ -16,7 +16,7 @@ use mir.Facts.{to_z-of_z}
 use mir.ValLaws.{to_z_pos}
 use borrow.Author.Tests.{ltb-false, le-ltb, not-true}
 use Rattle.laws.proofs.Tests.{false-true}
-use Rattle.paper.specs.Basics.{if◌then◌else◌}
+use Rattle.std.specs.Prelude.{if◌then◌else◌}
 use Rattle.paper.specs.Numbers.{value}
 use Rattle.paper.specs.Terms.{of_routine, Term, Memory, load}
 use Rattle.paper.specs.Steps.{Program, Action, repeat_for}

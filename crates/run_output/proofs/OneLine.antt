@@ -14,7 +14,7 @@ use mir.Val.{SFits, to_z}
 use mir.Facts.{to_z_pos}
 use borrow.Author.Tests.{le-leb, lt-leb}
 use Rattle.laws.proofs.Lists.{replaced-length, replaced-drop}
-use Rattle.paper.specs.Basics.{if◌then◌else◌}
+use Rattle.std.specs.Prelude.{if◌then◌else◌}
 use Rattle.paper.specs.Words.{LF, word_limit}
 use Rattle.paper.specs.Steps.{Program, write}
 use Rattle.paper.specs.States.{State, Rooms, Effect, made, lacking, with_output, go_to, on_top}

@@ -10,7 +10,7 @@ use lib.ListN.{length, get_or, take, drop, set, length-set, length-take, drop_of
 use lib.Seq.{take-suc, drop-cons, take_all, take-nil, drop-nil, drop-drop, set_at, append_snoc, length-take-le}
 use borrow.Author.Tests.{eq-eqb, ne_eqb}
 use Rattle.laws.proofs.Tests.{test, by_less, apart}
-use Rattle.paper.specs.Basics.{if◌then◌else◌}
+use Rattle.std.specs.Prelude.{if◌then◌else◌}
 use Rattle.paper.specs.Words.{QUOTE}
 use Rattle.paper.specs.Steps.{unquoted}
 use Rattle.run_output.specs.Output.{Copies, Copied, Spelled}

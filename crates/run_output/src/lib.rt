@@ -1,8 +1,7 @@
 // Output: strings, lines, and what is written so far.
 #![tactic(auto)]
 
-ghost use Rattle.std.specs.Prelude.{◌≡◌, ◌++◌, true, false, suc, ◌+◌, ◌-◌, ◌*◌, ◌/◌, ◌%◌, ◌<◌, ◌≤◌, eqb, length, take, drop};
-ghost use Rattle.paper.specs.Basics.{if◌then◌else◌};
+ghost use Rattle.std.specs.Prelude.{◌≡◌, ◌++◌, true, false, suc, ◌+◌, ◌-◌, ◌*◌, ◌/◌, ◌%◌, ◌<◌, ◌≤◌, eqb, length, take, drop, if◌then◌else◌};
 ghost use Rattle.paper.specs.Numbers.{decimal};
 ghost use Rattle.paper.specs.Words.{QUOTE};
 ghost use Rattle.paper.specs.Steps.{unquoted};

@@ -11,7 +11,7 @@ use mir.Syntax.{w64}
 use mir.Val.{SFits}
 use mir.Facts.{to_z-of_z}
 use Rattle.laws.proofs.Tests.{by-same}
-use Rattle.paper.specs.Basics.{if◌then◌else◌}
+use Rattle.std.specs.Prelude.{if◌then◌else◌}
 use Rattle.paper.specs.Steps as action
 use Rattle.paper.specs.States.{Rooms, Effect, ending, handing}
 use Rattle.paper.specs.Running.{perform, returning, ending_list}

@@ -9,7 +9,7 @@ use mir.Syntax.{w32}
 use mir.Val.{to_z}
 use borrow.Author.Tests.{lt-ltb, le-ltb, eq-eqb, ne_eqb}
 use Rattle.laws.proofs.Tests.{false-true}
-use Rattle.paper.specs.Basics.{if◌then◌else◌}
+use Rattle.std.specs.Prelude.{if◌then◌else◌}
 use Rattle.paper.specs.Steps.{Program}
 use Rattle.paper.specs.States.{State, Rooms, with_calls}
 use Rattle.paper.specs.Running.{run, started}

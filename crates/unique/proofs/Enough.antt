@@ -10,7 +10,7 @@ use lib.IntN.{ℤ, pos}
 use borrow.Author.Tests.{lt-ltb, le-leb}
 use Rattle.laws.proofs.Tests.{false-true}
 use Rattle.raised.proofs.Choices.{chosen, forked}
-use Rattle.paper.specs.Basics.{if◌then◌else◌}
+use Rattle.std.specs.Prelude.{if◌then◌else◌}
 use Rattle.paper.specs.Words.{LF}
 use Rattle.paper.specs.Numbers.{Value, value, error, num, ranged, is_zero, decimal}
 use Rattle.paper.specs.Terms.{Term, Memory, Located, at, fails, locate, worth}
