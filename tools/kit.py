@@ -10,6 +10,7 @@ import os, re, shutil, subprocess, sys, tempfile, time
 
 ROOT = os.path.dirname(os.path.dirname(os.path.abspath(__file__)))
 SECONDS = 0.5  # between two looks at what rt ci has proved
+MEMORY, PATIENCE = 2_500_000, 600  # what a check beside others is to find free, in kB, and how many seconds it waits for that
 CPU = "--cpu=x86-64"  # a static library is for every x86-64 processor, as it always was; rt's own choice is a newer one
 
 
@@ -104,8 +105,18 @@ def words(root, name):
     return words_over(root, name, deps, top) + (["--crate-type", "staticlib"] if is_static else [])
 
 
+def wait_for_memory():
+    """Waits until there is room for a check beside others, as rt ci does for its own; but not for ever."""
+    for _ in range(int(PATIENCE / SECONDS)):
+        with open("/proc/meminfo", encoding="utf-8") as file:
+            if int(re.search(r"MemAvailable:\s+(\d+)", file.read())[1]) > MEMORY:
+                return
+        time.sleep(SECONDS)
+
+
 def rattle(verb, folder, *said):
     """Runs the kit's compiler in a crate's folder, and gives its status, what it wrote, and the seconds of processor that it took."""
+    wait_for_memory()
     with tempfile.TemporaryFile("w+", errors="replace") as out:
         run = subprocess.Popen([f"{kit()}/bin/rattle", verb, *said], cwd=folder, stdout=out, stderr=out, stdin=subprocess.DEVNULL)
         try:
