@@ -13,7 +13,8 @@ use Rattle.std.specs.Prelude.{if◌then◌else◌}
 use Rattle.paper.specs.Numbers.{Value, value, error, num, ranged, is_zero}
 use Rattle.paper.specs.Terms.{Ref, of_module, of_routine, Term, Memory, Located, at, fails, locate, worth}
 use Rattle.paper.specs.Steps.{Spot, scalar, element_of, Action, store, call_for, call_of, give_back, raise, hand_on, exit, retry, try_next, write, read, choose, select, test_while, enter_for, repeat_for, end_list, end_undo, Program}
-use Rattle.paper.specs.States.{Loop, Location, module_slot, call_slot, Call, State, Rooms, Effect, made, failing, handing, ending, lacking, with_value, with_spot, with_values, with_calls, with_words, with_output, with_input, location_of, on_top, on_depth, go_to, set_word, set_loop, set_failed, store_at}
+use Rattle.paper.specs.States.{Loop, Location, module_slot, call_slot, Call, State, Rooms, Effect, made, failing, handing, ending, lacking, with_value}
+use Rattle.paper.specs.States.{with_spot, with_values, with_calls, with_words, with_output, with_input, location_of, on_top, on_depth, go_to, set_word, set_loop, set_failed, store_at}
 use Rattle.paper.specs.Running.{new_call, resume, calling, store_result, returning, retrying, trying_next, adding, taking, writing, read_num, choosing, holds, matching, looping, passes, with_step, entering, repeating, ending_list, perform, code_at, step_of}
 use Rattle.raised.proofs.Choices.{chosen, chosen_by, forked, forked-by}
 use Rattle.demands.proofs.Errors.{Sound, SoundPlace, locate-sound, worth-sound, ranged-sound, raised-number}

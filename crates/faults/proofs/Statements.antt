@@ -13,7 +13,8 @@ use Rattle.paper.specs.Trees.{Expr, element, Target, Simple, Statement, Statemen
 use Rattle.paper.specs.Names.{DataType, a_num, a_bool, Meaning, routine_in, variable_in, wrong_name, Scopes, sort_in, spelled, meaning}
 use Rattle.paper.specs.Types.{Fault, Judged, wanted, raises_error}
 use Rattle.paper.specs.Declarations.{Signature}
-use Rattle.paper.specs.Checks.{Setting, is_other_kind, no_signature, judge_scalar_target, judge_target, argument_faults, signature_faults, callee_faults, call_faults, result_faults, return_faults, optional_num, simple_faults, case_faults, statement_faults, list_faults, arm_faults, cases_faults, optional_faults}
+use Rattle.paper.specs.Checks.{Setting, is_other_kind, no_signature, judge_scalar_target, judge_target, argument_faults, signature_faults, callee_faults, call_faults}
+use Rattle.paper.specs.Checks.{result_faults, return_faults, optional_num, simple_faults, case_faults, statement_faults, list_faults, arm_faults, cases_faults, optional_faults}
 use Rattle.climb.specs.Places.{Spans}
 use Rattle.grammar.specs.Form.{last_one, one_more, closed-at-once, closed-later, Parses}
 use Rattle.grammar.specs.Form.{ExprsAt, ArgumentsAt, IndexAt, no_index, in-braces, TargetAt, OptionalAt, no_value, a-value, NumberAt, no_number, a-number}

@@ -15,7 +15,8 @@ use Rattle.paper.specs.Terms.{of_module, of_routine, Term}
 use Rattle.paper.specs.Steps.{Spot, scalar, element_of, Action, store, call_for, call_of, give_back, raise, hand_on, exit, retry, try_next, write, read, choose, select, test_while, enter_for, repeat_for, end_list, end_undo, unquoted}
 use Rattle.code.specs.Cells.{op_at, value_at, place_at, link_at}
 use Rattle.code.specs.Spans.{guard, ◌then◌, first_in, size_in, term_in}
-use Rattle.code.specs.Steps.{a_target, a_call_target, an_else_if, a_step, a_next_argument, a_procedure_call, a_return_of, a_return, a_raise_of, a_raise, an_exit, a_retry, a_try_next, a_write, a_write_of, a_read, a_compact_if, an_if, a_while, a_for, a_for_test, a_test, an_end, a_function_end, an_undo_end}
+use Rattle.code.specs.Steps.{a_target, a_call_target, an_else_if, a_step, a_next_argument, a_procedure_call, a_return_of, a_return, a_raise_of, a_raise, an_exit, a_retry}
+use Rattle.code.specs.Steps.{a_try_next, a_write, a_write_of, a_read, a_compact_if, an_if, a_while, a_for, a_for_test, a_test, an_end, a_function_end, an_undo_end}
 use Rattle.code.specs.Steps.{Head, no_head, numbered, agree, parts, scalar_in, element_in, target_in, arguments_in, any_arguments, callee_in, characters_in, conditions_in, cases_in, for_step, for_in}
 use Rattle.code.specs.Steps.{linked, store_in, call_for_in, call_of_in, with_term, write_in, write_of_in, read_in, compact_if_in, if_in, while_in, for_test_in, test_in, action_in}
 use Rattle.code.proofs.Options.{none-some, same_some, guarded, went}

@@ -12,7 +12,8 @@ use Rattle.store_cells.specs.Cells.{cells_of}
 use Rattle.code.specs.Cells.{head_at, op_at, value_at, link_at, op_in}
 use Rattle.layout.specs.Parts.{value_part, loop_part}
 use Rattle.store_evaluation.specs.Parts.{addresses}
-use Rattle.code.specs.Steps.{Head, parts, arguments_in, a_call_target, a_compact_if, a_for, a_for_test, a_function_end, a_next_argument, a_procedure_call, a_raise, a_raise_of, a_read, a_retry, a_return, a_return_of, a_target, a_test, a_try_next, a_while, a_write, a_write_of, an_end, an_exit, an_if, an_undo_end}
+use Rattle.code.specs.Steps.{Head, parts, arguments_in, a_call_target, a_compact_if, a_for, a_for_test, a_function_end, a_next_argument, a_procedure_call, a_raise, a_raise_of, a_read}
+use Rattle.code.specs.Steps.{a_retry, a_return, a_return_of, a_target, a_test, a_try_next, a_while, a_write, a_write_of, an_end, an_exit, an_if, an_undo_end}
 use Rattle.code.proofs.Spanning.{span-grows}
 use Rattle.store_evaluation.proofs.Places.{op-in, link-in}
 use Rattle.run_resuming.specs.Resuming.{Closes, Closing, StepAt, After}

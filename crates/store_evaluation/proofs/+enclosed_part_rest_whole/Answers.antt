@@ -95,8 +95,10 @@ rest-overflow_add-i t c =
     record { fits = omega arith }
 
 pub rest-whole-requires : goal.rest-whole-requires
-rest-whole-requires t c =
-    (omega (arith, c.decreases, c.if-r-to.true, span_less _ _ _ _ _ _ _ _ _ c.loop-i.invariant c.loop-i-test.true _ c.head-w.ensures c.if-op-eq-SPAN.true _ c.link-r.ensures.same), (c.requires.0, last-stands _ _ _ _ _ _ _ _ _ c.loop-i.invariant c.loop-i-test.true _ c.head-w.ensures c.if-op-eq-SPAN.true _ c.link-r.ensures.same c.if-r-to.true))
+rest-whole-requires t c = (
+  omega (arith, c.decreases, c.if-r-to.true, span_less _ _ _ _ _ _ _ _ _ c.loop-i.invariant c.loop-i-test.true _ c.head-w.ensures c.if-op-eq-SPAN.true _ c.link-r.ensures.same),
+  (c.requires.0, last-stands _ _ _ _ _ _ _ _ _ c.loop-i.invariant c.loop-i-test.true _ c.head-w.ensures c.if-op-eq-SPAN.true _ c.link-r.ensures.same c.if-r-to.true),
+)
 
 pub rest-returns-then-r-to : goal.rest-returns-then-r-to
 rest-returns-then-r-to t c =
@@ -110,7 +112,10 @@ rest-overflow_add-i-then-not-is_known t c =
     record { fits = omega arith }
 
 pub rest-part-acc-requires : goal.rest-part-acc-requires
-rest-part-acc-requires t c = (omega (arith, c.decreases, span_less _ _ _ _ _ _ _ _ _ c.loop-i.invariant c.loop-i-test.true _ c.head-w.ensures c.if-op-eq-SPAN.true _ c.link-r.ensures.same), (c.requires.0, span-stands _ _ _ _ _ _ _ _ _ c.loop-i.invariant c.loop-i-test.true _ c.head-w.ensures c.if-op-eq-SPAN.true _ c.link-r.ensures.same))
+rest-part-acc-requires t c = (
+  omega (arith, c.decreases, span_less _ _ _ _ _ _ _ _ _ c.loop-i.invariant c.loop-i-test.true _ c.head-w.ensures c.if-op-eq-SPAN.true _ c.link-r.ensures.same),
+  (c.requires.0, span-stands _ _ _ _ _ _ _ _ _ c.loop-i.invariant c.loop-i-test.true _ c.head-w.ensures c.if-op-eq-SPAN.true _ c.link-r.ensures.same),
+)
 
 pub rest-returns-then-not-is_value : goal.rest-returns-then-not-is_value
 rest-returns-then-not-is_value t c =
@@ -140,7 +145,10 @@ rest-overflow_add-i-then-op-eq-SPAN t c =
     record { fits = omega arith }
 
 pub rest-part-b-requires : goal.rest-part-b-requires
-rest-part-b-requires t c = (omega (arith, c.decreases, span_less _ _ _ _ _ _ _ _ _ c.loop-i.invariant c.loop-i-test.true _ c.head-w.ensures c.if-op-eq-SPAN.true _ c.link-r.ensures.same), (c.requires.0, span-stands _ _ _ _ _ _ _ _ _ c.loop-i.invariant c.loop-i-test.true _ c.head-w.ensures c.if-op-eq-SPAN.true _ c.link-r.ensures.same))
+rest-part-b-requires t c = (
+  omega (arith, c.decreases, span_less _ _ _ _ _ _ _ _ _ c.loop-i.invariant c.loop-i-test.true _ c.head-w.ensures c.if-op-eq-SPAN.true _ c.link-r.ensures.same),
+  (c.requires.0, span-stands _ _ _ _ _ _ _ _ _ c.loop-i.invariant c.loop-i-test.true _ c.head-w.ensures c.if-op-eq-SPAN.true _ c.link-r.ensures.same),
+)
 
 pub rest-returns-then-not-is_value-2 : goal.rest-returns-then-not-is_value-2
 rest-returns-then-not-is_value-2 t c =
@@ -217,8 +225,10 @@ pub whole-link-l-requires : goal.whole-link-l-requires
 whole-link-l-requires t c = search (rules, stands-in)
 
 pub whole-enclosed-acc-requires : goal.whole-enclosed-acc-requires
-whole-enclosed-acc-requires t c =
-    (omega (arith, c.decreases, encloses-on _ _ c.args.values.now.now c.args.base _ _ c.requires.1 _ c.head-w.ensures c.if-w-le-CALL_SLOT.false _ c.link-l.ensures.same), (c.requires.0, encloses _ _ c.args.values.now.now c.args.base _ _ c.requires.1 _ c.head-w.ensures c.if-w-le-CALL_SLOT.false _ c.link-l.ensures.same))
+whole-enclosed-acc-requires t c = (
+  omega (arith, c.decreases, encloses-on _ _ c.args.values.now.now c.args.base _ _ c.requires.1 _ c.head-w.ensures c.if-w-le-CALL_SLOT.false _ c.link-l.ensures.same),
+  (c.requires.0, encloses _ _ c.args.values.now.now c.args.base _ _ c.requires.1 _ c.head-w.ensures c.if-w-le-CALL_SLOT.false _ c.link-l.ensures.same),
+)
 
 pub whole-returns-then-not-is_value : goal.whole-returns-then-not-is_value
 whole-returns-then-not-is_value t c =
