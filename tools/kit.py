@@ -182,8 +182,7 @@ def keeping(folder):
 def static(root, name, into):
     """Proves a static library's own crate, over the libraries below it, and compiles it."""
     here = f"{root}/crates/{name}"
-    is_static, _ = crates_of(root)[name]
-    if not is_static:
+    if not crates_of(root).get(name, (False, []))[0]:
         raise Unproved(f"{name}: crates.txt lists no static library of this name")
     if in_gate():
         wait_for(name)
