@@ -267,6 +267,31 @@ pub record Asking : Type 0 where
   pub n : ℕ
   pub n-is : n ≡ value_at (cells_of code) s / characters_part
 
+-- it, from the facts that the steps before tell
+abbrev pub asking-by : (text code values inputs out : List ℕ) (base i s : ℕ) (reads : Prints text code values out base i) (says : Says code i a_read s) (k : ℤ)
+    → SFits w64 k → Spotted code values base (i + 1) k → le_z (pos first_error) (whole.read k) ≡ false → (written : ℕ) → written ≡ count_in (cells_of values)
+    → (n : ℕ) → n ≡ value_at (cells_of code) s / characters_part → Asking
+asking-by text code values inputs out base i s reads says k fits spot found written written-is n n-is = record {
+  text = text;
+  code = code;
+  values = values;
+  inputs = inputs;
+  out = out;
+  base = base;
+  i = i;
+  s = s;
+  reads = reads;
+  says = says;
+  k = k;
+  fits = fits;
+  spot = spot;
+  found = found;
+  at = written;
+  at-is = written-is;
+  n = n;
+  n-is = n-is;
+}
+
 module _ (here : Asking) where
   open here use {text, code, values, inputs, out, base, i, s, reads as p, says as q, k, fits as fk, spot as sp, found as g, at, at-is as ea, n, n-is as en}
 

@@ -1,54 +1,20 @@
-use Rattle.run_output.proofs.TPReadNum.{Asking, Asked, read-in, read_next, read-sum, read-sum-7, read_answer, read-answer-7, read-target, read-fails, read-lacks, read_none, read-adds, read-cast, read-takes, read_out, read_done}
+use Rattle.run_output.proofs.TPReadNum.{Asking, Asked, asking-by, read-in, read_next, read-sum, read-sum-7, read_answer, read-answer-7, read-target, read-fails, read-lacks, read_none, read-adds, read-cast, read-takes, read_out, read_done}
 use borrow.Author.Rules.{rules}
 use Rattle.run_output.proofs.read.Goals as goal
 use Rattle.run_output.proofs.read.Goals.{After-characters, After-add}
 
 -- what is known where the room for the line is tested
 abbrev asking : After-characters → Asking
-asking c = record {
-  text = _;
-  code = _;
-  values = _;
-  inputs = c.args.inputs.now;
-  out = _;
-  base = _;
-  i = _;
-  s = _;
-  reads = c.requires.0;
-  says = c.requires.1;
-  k = _;
-  fits = record { sfits = c.target_cell-k.type_inv };
-  spot = c.target_cell-k.ensures;
-  found = c.if-k-ge-FIRST_ERROR.false;
-  at = _;
-  at-is = c.count_at.ensures;
-  n = _;
-  n-is = c.characters.ensures.0;
-}
+asking c =
+    asking-by _ _ _ c.args.inputs.now _ _ _ _ c.requires.0 c.requires.1 _ record { sfits = c.target_cell-k.type_inv } c.target_cell-k.ensures
+    c.if-k-ge-FIRST_ERROR.false _ c.count_at.ensures _ c.characters.ensures.0
 
 -- and once the line is added
 abbrev asked : After-add → Asked
 asked c = record {
-  asking = record {
-    text = _;
-    code = _;
-    values = _;
-    inputs = c.args.inputs.now;
-    out = _;
-    base = _;
-    i = _;
-    s = _;
-    reads = c.requires.0;
-    says = c.requires.1;
-    k = _;
-    fits = record { sfits = c.target_cell-k.type_inv };
-    spot = c.target_cell-k.ensures;
-    found = c.if-k-ge-FIRST_ERROR.false;
-    at = _;
-    at-is = c.count_at.ensures;
-    n = _;
-    n-is = c.characters.ensures.0;
-  };
+  asking =
+      asking-by _ _ _ c.args.inputs.now _ _ _ _ c.requires.0 c.requires.1 _ record { sfits = c.target_cell-k.type_inv } c.target_cell-k.ensures
+      c.if-k-ge-FIRST_ERROR.false _ c.count_at.ensures _ c.characters.ensures.0;
   room = c.if-out-count_at.false;
   used = _;
   used-is = c.count_at-used.ensures;
