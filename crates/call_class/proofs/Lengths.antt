@@ -1,6 +1,6 @@
 -- Lengths taken one by one from what is left.
 use mathlib.Core.Path.{◌≡◌, refl, sym, ap, ◌∙◌}
-use mathlib.Core.Bool.{Bool, true, false}
+use mathlib.Core.Bool.{false}
 use mathlib.Core.List.{List, [], ◌∷◌, ◌++◌}
 use Prim.Native.Nat.{ℕ, zero, suc, ◌+◌, ◌-◌, ◌*◌, ◌/◌, ◌≤◌, ◌<◌}
 use native.Mathlib.Numerals.{add-one}
@@ -64,13 +64,13 @@ module _ (lengths : List ℕ) (total left i : ℕ) (a : Adding lengths total lef
     next : sum (take (suc i) (lengths_of lengths)) ≡ sum (take i (lengths_of lengths)) + k
     next = sum-next (lengths_of lengths) i (omega (arith, count-lengths lengths)) ∙ omega (arith, e, ap (λ (x : List ℕ). get_or x i 0) (lengths-cells lengths))
 
-    pub adding-stop : left < k → false ≡ eqb (sum (lengths_of lengths)) total
+    pub adding-stop : (k ≤ left → ⊥) → false ≡ eqb (sum (lengths_of lengths)) total
     adding-stop g =
         let d : sum (lengths_of lengths) ≡ total → ⊥ = λ z. omega (arith, next, a.rest, sum-most (suc i) (lengths_of lengths)) in
         sym (ne_eqb (sum (lengths_of lengths)) total d)
 
-    pub adding-step : k ≤ left → Adding lengths total (left - k) (i + 1)
-    adding-step g = record { within = omega arith; rest = rw add-one (omega (arith, next, a.rest)) }
+    pub adding-step : (rest : ℕ) → (k ≤ left) × (rest ≡ left - k) → Adding lengths total rest (i + 1)
+    adding-step rest (fits, less) = record { within = omega arith; rest = rw add-one (omega (arith, next, a.rest)) }
 
   pub adding-end : length lengths / 4 ≤ i → eqb left 0 ≡ eqb (sum (lengths_of lengths)) total
   adding-end h =

@@ -1,12 +1,12 @@
 -- One module of a class, and all of them.
 use mathlib.Core.Path.{◌≡◌, refl, sym, ap, ap₂, ◌∙◌}
-use mathlib.Core.List.{List, [], ◌++◌, append_assoc, append-nil}
-use Prim.Native.Nat.{ℕ, zero, suc, ◌+◌, ◌-◌, ◌*◌, ◌/◌, ◌≤◌, ◌<◌}
+use mathlib.Core.List.{List, [], ◌++◌, append-nil}
+use Prim.Native.Nat.{ℕ, suc, ◌+◌, ◌-◌, ◌*◌, ◌/◌, ◌≤◌, ◌<◌}
 use native.Mathlib.Nat.{zero-mul}
 use native.Mathlib.Numerals.{add-one}
 use native.Mathlib.Omega.{arith}
-use lib.ListN.{length, get_or, take, drop, length-append}
-use lib.Seq.{drop-drop, drop-nil, drop-length}
+use lib.ListN.{length, get_or, take, drop}
+use lib.Seq.{drop-length}
 use borrow.Rule.Slice.PartMut.{mid_of, put_mid}
 use Rattle.laws.specs.Lists.{replaced}
 use Rattle.laws.proofs.Lists.{part_length}
@@ -14,25 +14,21 @@ use Rattle.paper.specs.Undoing.{plainly}
 use Rattle.paper.specs.Answer as paper
 use Rattle.paper.specs.Answer.{record_size, Result, record_bytes, bytes_of, store_after, bytes_after, carried_out, verdict}
 use Rattle.store_cells.specs.Cells.{Got}
-use Rattle.layout.specs.Named.{store_bytes}
-use Rattle.classes.specs.Classes.{sum, text_in, lengths_of, share_of, ClassLent, modules_of, class_question_of, class_refusal, share_in, part, data_bytes, output_of, record_of, data_of, in_order, filled}
+use Rattle.classes.specs.Classes.{sum, text_in, lengths_of, share_of, ClassLent, modules_of, class_question_of, share_in, part, data_bytes, output_of, record_of, data_of, in_order, filled}
 use Rattle.classes.specs.Lesson.{text_at}
-use Rattle.classes.proofs.Orders.{filled-here, filled_next, filled-length}
+use Rattle.classes.proofs.Orders.{filled-here, filled_next}
 use Rattle.classes.proofs.Taken.{Good, good}
 use Rattle.classes.proofs.Singles as singles
 use Rattle.classes.proofs.Singles.{first-words}
-use Rattle.call_records.specs.Leaves.{Rooms, Left, Tells}
+use Rattle.call_records.specs.Leaves.{Tells}
 use Rattle.call_records.proofs.Stores.{AllBytes, left-bytes}
 use Rattle.run_whole.specs.declared.Abort.TheVariants.{Never}
 use Rattle.run_whole.specs.Runs.{abort_of}
 use Rattle.call_judging.specs.Carries.{asked_by, put}
 use Rattle.call_class.specs.Classes.{lent}
-use Rattle.call_class.specs.Parts.{Takes, Carries, Carried, Accepts, Reached}
+use Rattle.call_class.specs.Parts.{Carries, Carried, Accepts, Reached}
+use Rattle.call_class.proofs.Copies.{part-back}
 use Rattle.call_class.proofs.Lengths.{lengths-cells, count-lengths, word_count, sum-next, sum-most}
-
--- ---- a part that was lent, and is back
-part-back : (l m : List ℕ) (a k : ℕ) → put_mid a k l m ≡ replaced l a m k
-part-back l m a k = sym (append_assoc (take a l) m (drop k (drop a l))) ∙ ap (λ (x : List ℕ). take a l ++ m ++ x) (drop-drop k a l)
 
 -- ---- one module
 module _ (text inputs out code values records' data' : List ℕ) (steps depth i share : ℕ) where

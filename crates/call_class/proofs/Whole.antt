@@ -1,9 +1,9 @@
 -- The call of a class: what it returns and leaves is the request's answer.
 use mathlib.Core.Path.{◌≡◌, refl, sym, ap, ◌∙◌}
-use mathlib.Core.List.{List, [], ◌++◌}
+use mathlib.Core.List.{List, ◌++◌}
 use Prim.Native.Nat.{ℕ}
 use native.Mathlib.Omega.{arith}
-use lib.ListN.{length, drop, replicate}
+use lib.ListN.{length, replicate}
 use Rattle.paper.specs.Answer.{store_words}
 use Rattle.layout.specs.Named.{store_bytes}
 use Rattle.classes.specs.Classes.{ClassLent, lengths_of, modules_of, class_question_of, add_up, too_many, too_short, class_refusal, zeroed, taken, refused, untouched}
@@ -11,7 +11,9 @@ use Rattle.classes.proofs.Taken.{is-taken, is-refused, is-untouched, stores-lent
 use Rattle.store_cells.specs.Cells.{Cleared}
 use Rattle.call_records.specs.Records.{Empties, Emptied}
 use Rattle.call_class.specs.Classes.{lent, Classes}
-use Rattle.call_class.specs.Parts.{sized, Accepts, Reached}
+use Rattle.call_class.specs.declared.Refusal.{Refusal}
+use Rattle.call_class.specs.declared.Refusal.TheVariants.{SmallStore, WrongDepth, LengthsDiffer, ManyModules, ShortList}
+use Rattle.call_class.specs.Parts.{number_of, sized, Accepts, Reached}
 use Rattle.call_class.proofs.Lengths.{word_count}
 
 -- a store that was cleared
@@ -70,3 +72,18 @@ module _ (texts lengths : List ℕ) (steps depth : ℕ) (inputs out code values 
           is = (λ i. record { returned = 0; output = o i; code = c i; values = v i; records = f i; module-data = d i })
               ∙ sym (is-taken all (refusal_is ∙ z));
         }
+
+-- ---- the number of a refusal
+pub small-alone : (r : Refusal) → number_of r ≡ 1 → r ≡ SmallStore
+small-alone SmallStore e = refl
+small-alone WrongDepth e = absurd (omega arith)
+small-alone LengthsDiffer e = absurd (omega arith)
+small-alone ManyModules e = absurd (omega arith)
+small-alone ShortList e = absurd (omega arith)
+
+pub some-number : (r : Refusal) → number_of r ≡ 0 → ⊥
+some-number SmallStore e = omega arith
+some-number WrongDepth e = omega arith
+some-number LengthsDiffer e = omega arith
+some-number ManyModules e = omega arith
+some-number ShortList e = omega arith

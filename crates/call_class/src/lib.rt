@@ -1,26 +1,45 @@
-// A whole class in one call: each module as the single call has it, one behind another.
+// A whole class in one call: each module as the single call has it, one behind another. Numbers and byte slices only, and a number back, for the C interface.
 #![tactic(auto)]
 
-ghost use Rattle.std.specs.Prelude.{◌≡◌, ◌||◌, ◌*◌, ◌+◌, ◌≤◌, eqb, length, take};
+ghost use Rattle.std.specs.Prelude.{◌≡◌, eqb, length, take};
 ghost use Rattle.laws.specs.Lists.{replaced};
 ghost use Rattle.paper.specs.Undoing.{plainly};
 ghost use Rattle.paper.specs.Answer.{verdict, carried_out};
 ghost use Rattle.classes.specs.Classes.{sum, lengths_of, part, data_bytes, class_refusal};
 ghost use Rattle.call_judging.specs.Carries.{put};
 ghost use Rattle.call_class.specs.Classes.{lent, Classes};
-ghost use Rattle.call_class.specs.Parts.{sized, Takes, Carries, Carried, Accepts, Reached};
+ghost use Rattle.call_class.specs.Parts.{number_of, told, sized, Takes, Carries, Carried, Accepts, Reached};
 
 use call_judging::judge;
 use call_records::{bad_depth, empty};
-use layout::{limits, rules};
+use layout::limits;
+use layout::rules::Rule;
 use run_whole::Abort;
 
-// What a class is refused for, besides a small store and a wrong depth (classes/specs/Classes.antt).
-const LENGTHS_DIFFER: u32 = 20;
+// What a class is refused for (classes/specs/Classes.antt).
+#[derive(Clone, Copy)]
+enum Refusal {
+    SmallStore,
+    WrongDepth,
+    LengthsDiffer,
+    ManyModules,
+    ShortList,
+}
 
-const MANY_MODULES: u32 = 21;
-
-const SHORT_LIST: u32 = 27;
+impl Refusal {
+    // Its number, which a host is told.
+    fn number(self) -> u32
+        ensures { result ≡ number_of self }
+    {
+        match self {
+            Refusal::SmallStore => Rule::SmallStore.number(),
+            Refusal::WrongDepth => Rule::WrongDepth.number(),
+            Refusal::LengthsDiffer => 20,
+            Refusal::ManyModules => 21,
+            Refusal::ShortList => 27,
+        }
+    }
+}
 
 // the most modules of a class
 const MODULES: usize = 64;
@@ -34,22 +53,18 @@ const DATA_BYTES: usize = LENGTH_BYTES * limits::MODULE_WORDS;
 fn adds_up(lengths: &[u8], total: usize) -> bool
     ensures { result ≡ eqb (sum (lengths_of lengths.now)) total }
 {
-    let n = lengths.len() / LENGTH_BYTES;
     let mut left = total;
-    let mut i = 0;
-    while i < n {
-        let k = store_cells::get(lengths, i) as usize;
-        if left < k {
+    for i in 0..lengths.len() / LENGTH_BYTES {
+        let Some(rest) = left.checked_sub(store_cells::get(lengths, i) as usize) else {
             return false;
-        }
-        left -= k;
-        i += 1;
+        };
+        left = rest;
     }
     left == 0
 }
 
-// The number that the class is refused by, in the order of the request; 0 where it is not.
-fn refusal_of(
+// Whether the class can be carried out: by the tests of the request, in its order.
+fn admit(
     texts: &[u8],
     lengths: &[u8],
     depth: u32,
@@ -57,44 +72,34 @@ fn refusal_of(
     values: &[u8],
     records: &[u8],
     kept: &[u8],
-) -> u32
-    ensures { result ≡ class_refusal (sized texts.now lengths.now depth code.now values.now records.now kept.now) }
+) -> Result<(), Refusal>
+    ensures { told result ≡ class_refusal (sized texts.now lengths.now depth code.now values.now records.now kept.now) }
 {
-    if code.len() < limits::STORE_BYTES {
-        return rules::SMALL_STORE;
-    }
-    if values.len() < limits::STORE_BYTES {
-        return rules::SMALL_STORE;
+    if code.len() < limits::STORE_BYTES || values.len() < limits::STORE_BYTES {
+        return Err(Refusal::SmallStore);
     }
     if bad_depth(depth) {
-        return rules::WRONG_DEPTH;
+        return Err(Refusal::WrongDepth);
     }
     if !adds_up(lengths, texts.len()) {
-        return LENGTHS_DIFFER;
+        return Err(Refusal::LengthsDiffer);
     }
     let n = lengths.len() / LENGTH_BYTES;
     if MODULES < n {
-        return MANY_MODULES;
+        return Err(Refusal::ManyModules);
     }
-    if records.len() < limits::RECORD_BYTES * n {
-        return SHORT_LIST;
+    if records.len() < limits::RECORD_BYTES * n || kept.len() < DATA_BYTES * n {
+        return Err(Refusal::ShortList);
     }
-    if kept.len() < DATA_BYTES * n {
-        return SHORT_LIST;
-    }
-    0
+    Ok(())
 }
 
-// Copies the words of a module from the value store, byte by byte.
+// Copies the words of a module from the value store.
 fn copy_words(values: &[u8], kept: &mut [u8], at: usize)
     requires { Takes values.now kept.old at }
     ensures { kept.new ≡ replaced kept.old at (take data_bytes values.now) data_bytes }
 {
-    let mut j = 0;
-    while j < DATA_BYTES {
-        kept[at + j] = values[j];
-        j += 1;
-    }
+    kept[at..at + DATA_BYTES].copy_from_slice(&values[..DATA_BYTES]);
 }
 
 // Module i of a class: checked, and refused or carried out, with its share of the output, its record and its data.
@@ -154,8 +159,7 @@ fn carry_class<'a>(
     }
     let share = out.len() / n;
     let mut at = 0;
-    let mut i = 0;
-    while i < n {
+    for i in 0..n {
         let end = at + store_cells::get(lengths, i) as usize;
         carry_module(
             &texts[at..end],
@@ -171,7 +175,6 @@ fn carry_class<'a>(
             share,
         );
         at = end;
-        i += 1;
     }
 }
 
@@ -190,17 +193,20 @@ pub fn rapid_class<'a>(
 ) -> u32
     ensures { Classes (lent texts.now lengths.now steps depth inputs.now out.old code.old values.old records.old kept.old) result out.new code.new values.new records.new kept.new }
 {
-    let refusal = refusal_of(texts, lengths, depth, code, values, records, kept);
-    if refusal == rules::SMALL_STORE {
-        return refusal;
+    match admit(texts, lengths, depth, code, values, records, kept) {
+        Ok(()) => {
+            carry_class(
+                texts, lengths, steps, depth, inputs, out, code, values, records, kept,
+            );
+            empty(code, values, 0);
+            0
+        }
+        Err(refusal) => match refusal {
+            Refusal::SmallStore => refusal.number(),
+            _ => {
+                empty(code, values, 0);
+                refusal.number()
+            }
+        },
     }
-    if refusal == 0 {
-        carry_class(
-            texts, lengths, steps, depth, inputs, out, code, values, records, kept,
-        );
-        empty(code, values, 0);
-        return 0;
-    }
-    empty(code, values, 0);
-    refusal
 }

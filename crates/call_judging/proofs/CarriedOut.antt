@@ -1,7 +1,8 @@
 -- An accepted module carried out: what the run promises is what the paper's result says.
+use Rattle.std.specs.Prelude.{Ok, Err}
 use mathlib.Core.Path.{◌≡◌, refl, sym, ap, ap₂, ◌∙◌}
 use mathlib.Core.List.{List, ◌++◌, map}
-use Prim.Native.Nat.{ℕ, suc, ◌+◌, ◌-◌, ◌*◌, ◌/◌, ◌≤◌, ◌<◌}
+use Prim.Native.Nat.{ℕ, suc, ◌+◌, ◌*◌, ◌/◌, ◌≤◌, ◌<◌}
 use native.Mathlib.Omega.{arith}
 use lib.ListN.{length, get_or, take, drop, length-map, length-append, take-append-drop, get_or-append, get_or-eq_default}
 use lib.Seq.{length-take-le, take-take, take-append-le, drop_at, get_or-take}
@@ -20,10 +21,10 @@ use Rattle.store_cells.proofs.Laws.{length-words, words_take, words_append}
 use Rattle.store_cells.proofs.Paper.{words-paper}
 use Rattle.code.specs.Cells.{errno_cell}
 use Rattle.code.specs.Windows.{written_cell, used_cell, count_at, written_in}
-use Rattle.check_whole.specs.declared.Checked.{Checked}
-use Rattle.check_whole.specs.declared.Checked.TheVariants as checked
+use Rattle.check_whole.specs.Checks.{Checked}
 use Rattle.run_whole.specs.declared.Abort.{Abort}
 use Rattle.run_whole.specs.declared.Ended.{Ended}
+use Rattle.layout.specs.Endings.{ending_number}
 use Rattle.run_whole.specs.Runs.{Begins, abort_of, Ran}
 use Rattle.run_whole.proofs.RunTold.{Told, run-told}
 use Rattle.layout.specs.Named.{store_bytes}
@@ -35,12 +36,12 @@ use Rattle.call_judging.specs.Carries.{asked_by, put, Accepts, Starts, Ends}
 
 -- ---- what the check's answer says
 words_in : Checked → ℕ
-words_in (checked.Accepted n w h) = w
-words_in (checked.Refused n o) = 0
+words_in (Ok m) = m.count
+words_in (Err refusal) = 0
 
 main_in : Checked → ℕ
-main_in (checked.Accepted n w h) = h
-main_in (checked.Refused n o) = 0
+main_in (Ok m) = m.main
+main_in (Err refusal) = 0
 
 -- ---- the first part of a list of bytes
 pub first-words : (l : List ℕ) → cells_of (take store_bytes l) ≡ take store_words (cells_of l)
@@ -143,10 +144,10 @@ module _ {text code values fields : List ℕ} {words main depth : ℕ} (a : Acce
         ∙ ap (λ (m : ℕ). length (take m (cells_of after))) (sym words_are)
         ∙ length-take-le words (cells_of after) (rw after-words (omega (arith, few_words)))
 
-    fields-are : reported e.ending e.place e.made (after ++ drop store_bytes values) words ≡ (ran_to text a.a.words ended).fields
+    fields-are : (n : ℕ) → n ≡ ending_number e.ending → reported n e.place e.made (after ++ drop store_bytes values) words ≡ (ran_to text a.a.words ended).fields
     unfolding reported ran_to ended_with written_in
-    fields-are =
-        let e₁ = comes.ending in
+    fields-are n is =
+        let e₁ = is ∙ comes.ending in
         let e₂ = comes.place in
         let e₃ = comes.made in
         let e₄ = cell errno_cell (omega arith) ∙ comes.errno in
@@ -155,23 +156,23 @@ module _ {text code values fields : List ℕ} {words main depth : ℕ} (a : Acce
         let e₇ = sym kept-many in
         λ i. record { ending = e₁ i; refusal = 0; offset = e₂ i; steps = e₃ i; errno = e₄ i; output = e₅ i; inputs = e₆ i; words = e₇ i }
 
-    tells : {code' values' fields' : List ℕ} → Written fields fields' (reported e.ending e.place e.made (after ++ drop store_bytes values) words)
+    tells : {code' values' fields' : List ℕ} (n : ℕ) → n ≡ ending_number e.ending → Written fields fields' (reported n e.place e.made (after ++ drop store_bytes values) words)
         → Emptied code (after ++ drop store_bytes values) code' values' words
         → Tells (ran_to text a.a.words ended) out code values fields out' code' values' fields'
     unfolding ran_to ended_with
-    tells {code'} {values'} {fields'} w z =
+    tells {code'} {values'} {fields'} n is w z =
         record {
           output = sym (take-append-drop (length ended.state.output) out') ∙ ap₂ ◌++◌ comes.output comes.past;
           code-left = left-empty code code' a.rooms.code-room z.code-cleared;
           values-left = left-cleared values (after ++ drop store_bytes values) values' words z.values-cleared (omega (arith, few_words)) a.rooms.values-room whole-size whole-past ended.state.words kept-many kept-are;
-          told = record { bytes = w.bytes ∙ ap (λ (f : Record). paper.record_bytes f ++ drop paper.record_size fields) fields-are };
+          told = record { bytes = w.bytes ∙ ap (λ (f : Record). paper.record_bytes f ++ drop paper.record_size fields) (fields-are n is) };
         }
 
-    told-all : {code' values' fields' : List ℕ} → Written fields fields' (reported e.ending e.place e.made (after ++ drop store_bytes values) words)
+    told-all : {code' values' fields' : List ℕ} (n : ℕ) → n ≡ ending_number e.ending → Written fields fields' (reported n e.place e.made (after ++ drop store_bytes values) words)
         → Emptied code (after ++ drop store_bytes values) code' values' words
         → Tells (carried_out (put (asked_by abort) text steps depth inputs out) (verdict text)) out code values fields out' code' values' fields'
     unfolding put carried_out rooms ended run_asked
-    told-all w z = rw a.judged (tells w z)
+    told-all n is w z = rw a.judged (tells n is w z)
 
   -- ---- the whole store after it
   module _ {inputs out values' out' : List ℕ} {steps : ℕ} {abort : Abort} {e : Ended} (ends : Ends text code values values' inputs out out' main steps depth abort e) where
@@ -185,6 +186,6 @@ module _ {text code values fields : List ℕ} {words main depth : ℕ} (a : Acce
           few = omega (arith, few_words);
         }
 
-    pub carried : {code' values'' fields' : List ℕ} → Settled e.ending e.place e.made words code values' fields code' values'' fields'
+    pub carried : {code' values'' fields' : List ℕ} (n : ℕ) → n ≡ ending_number e.ending → Settled n e.place e.made words code values' fields code' values'' fields'
         → Tells (carried_out (put (asked_by abort) text steps depth inputs out) (verdict text)) out code values fields out' code' values'' fields'
-    carried s = told-all ends.ran (rw ends.whole at s.told) (rw ends.whole at s.cleared)
+    carried n is s = told-all ends.ran n is (rw ends.whole at s.told) (rw ends.whole at s.cleared)

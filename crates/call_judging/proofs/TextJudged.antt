@@ -1,5 +1,6 @@
 -- A text that is judged: refused, or ready to be carried out.
-use mathlib.Core.Path.{◌≡◌, refl, sym, ap₂, ◌∙◌}
+use Rattle.std.specs.Prelude.{Ok, Err}
+use mathlib.Core.Path.{◌≡◌, refl, sym, ap, ap₂, ◌∙◌}
 use mathlib.Core.Bool.{Bool, true, false, ◌||◌}
 use mathlib.Core.List.{List, ◌++◌}
 use Prim.Native.Nat.{ℕ, ◌≤◌, ◌<◌}
@@ -9,9 +10,10 @@ use borrow.Author.Tests.{le-ltb}
 use Rattle.laws.proofs.Tests.{apart, false-true}
 use Rattle.paper.specs.Words.{Refusal}
 use Rattle.paper.specs.Answer.{record_size, record_bytes, depth_limit, Verdict, refused_by, accepted, verdict, Result, carried_out}
-use Rattle.check_whole.specs.declared.Checked.{Checked}
-use Rattle.check_whole.specs.declared.Checked.TheVariants as checked
-use Rattle.check_whole.specs.Checks.{TooSmall, Judges, Checks}
+use Rattle.layout.specs.Broken.{number_of}
+use Rattle.text_words.specs.declared.Refusal as refusals
+use Rattle.check_whole.specs.declared.Accepted as answers
+use Rattle.check_whole.specs.Checks.{Checked, TooSmall, Judges, Checks}
 use Rattle.run_whole.specs.declared.Abort.{Abort}
 use Rattle.layout.specs.Named.{store_bytes}
 use Rattle.call_records.specs.Records.{refused_fields, Written}
@@ -30,15 +32,11 @@ by-false T F true e x = false-true (sym e)
 by-false T F false e x = x
 
 -- The check's answer is one alone. (Over plain variables: beside what a check promises there is much to look through.)
-not-both : {r : Checked} {number offset n words main : ℕ} → r ≡ checked.Refused number offset → r ≡ checked.Accepted n words main → ◌≡◌ {A = ℕ} 0 1
+not-both : {r : Checked} {refusal : refusals.Refusal} {m : answers.Accepted} → r ≡ Err refusal → r ≡ Ok m → ◌≡◌ {A = ℕ} 0 1
 not-both p q = cc
 
-module _ {r : Checked} {number offset number' offset' : ℕ} (p : r ≡ checked.Refused number offset) (q : r ≡ checked.Refused number' offset') where
-  same_number : number ≡ number'
-  same_number = cc
-
-  same-offset : offset ≡ offset'
-  same-offset = cc
+same-refusal : {r : Checked} {refusal other : refusals.Refusal} → r ≡ Err refusal → r ≡ Err other → refusal ≡ other
+same-refusal p q = cc
 
 module _ (text code values fields : List ℕ) (room : Rooms code values fields) (r : Checked) (code' values' : List ℕ) where
   judges : Checks text code values r code' values' → Judges text code values (verdict text) r code' values'
@@ -47,17 +45,17 @@ module _ (text code values fields : List ℕ) (room : Rooms code values fields) 
       by-false (TooSmall code values r code' values') (Judges text code values (verdict text) r code' values') (ltb (length code) store_bytes || ltb (length values) store_bytes)
       (rw (le-ltb (length code) store_bytes room.code-room, le-ltb (length values) store_bytes room.values-room))
 
-  pub accepts : (n words main depth : ℕ) → 0 < depth → depth ≤ depth_limit → Checks text code values r code' values' → r ≡ checked.Accepted n words main
-      → Accepts text code' values' fields words main depth
+  pub accepts : (m : answers.Accepted) (depth : ℕ) → 0 < depth → depth ≤ depth_limit → Checks text code values r code' values' → r ≡ Ok m
+      → Accepts text code' values' fields m.count m.main depth
   unfolding Judges
-  accepts n words main depth some most c e = by-verdict (verdict text) refl (judges c)
+  accepts m depth some most c e = by-verdict (verdict text) refl (judges c)
     where
-      by-verdict : (v : Verdict) → verdict text ≡ v → Judges text code values v r code' values' → Accepts text code' values' fields words main depth
-      by-verdict (refused_by f) q j = apart (not-both j.answer e)
+      by-verdict : (v : Verdict) → verdict text ≡ v → Judges text code values v r code' values' → Accepts text code' values' fields m.count m.main depth
+      by-verdict (refused_by f) q j = apart (not-both j.answer.answer e)
       by-verdict (accepted a) q j =
           record {
             a = a;
-            n = n;
+            n = m.words;
             judged = q;
             ready = record {
               R = j.R;
@@ -79,25 +77,26 @@ module _ (text code values fields : List ℕ) (room : Rooms code values fields) 
           }
 
   -- the text is refused
-  pub refused-by : (number offset : ℕ) → Checks text code values r code' values' → r ≡ checked.Refused number offset → (f : Refusal) × (verdict text ≡ refused_by f)
+  pub refused-by : (refusal : refusals.Refusal) → Checks text code values r code' values' → r ≡ Err refusal → (f : Refusal) × (verdict text ≡ refused_by f)
   unfolding Judges
-  refused-by number offset c e = by-verdict (verdict text) refl (judges c)
+  refused-by refusal c e = by-verdict (verdict text) refl (judges c)
     where
       by-verdict : (v : Verdict) → verdict text ≡ v → Judges text code values v r code' values' → (f : Refusal) × (verdict text ≡ refused_by f)
       by-verdict (accepted a) q j = apart (not-both e j.answer)
       by-verdict (refused_by f) q j = (f, q)
 
-  pub judged-refused : (number offset steps depth : ℕ) (abort : Abort) (inputs out fields' : List ℕ) → Checks text code values r code' values' → r ≡ checked.Refused number offset
-      → Written fields fields' (refused_fields number offset)
+  pub judged-refused : (refusal : refusals.Refusal) (number steps depth : ℕ) (abort : Abort) (inputs out fields' : List ℕ) → Checks text code values r code' values' → r ≡ Err refusal
+      → number ≡ number_of refusal.rule → Written fields fields' (refused_fields number refusal.place)
       → Tells (carried_out (put (asked_by abort) text steps depth inputs out) (verdict text)) out code values fields out code' values' fields'
   unfolding Judges carried_out
-  judged-refused number offset steps depth abort inputs out fields' c e w = by-verdict (verdict text) (judges c)
+  judged-refused refusal number steps depth abort inputs out fields' c e is w = by-verdict (verdict text) (judges c)
     where
       by-verdict : (v : Verdict) → Judges text code values v r code' values' → Tells (carried_out (put (asked_by abort) text steps depth inputs out) v) out code values fields out code' values' fields'
       by-verdict (accepted a) j = apart (not-both e j.answer)
       by-verdict (refused_by f) j =
-          let n = same_number e j.answer in
-          let o = same-offset e j.answer in
+          let q = same-refusal e j.answer.answer in
+          let n = is ∙ ap (λ (x : refusals.Refusal). number_of x.rule) q ∙ j.answer.number-is in
+          let o = ap (λ (x : refusals.Refusal). x.place) q ∙ j.answer.offset-is in
           refusal-tells out f.number f.offset
           (record {
             code-left = left-emptied code code' room.code-room j.code-empty;
@@ -106,13 +105,13 @@ module _ (text code values fields : List ℕ) (room : Rooms code values fields) 
           })
 
   -- whatever the result is
-  pub judged-carried : {R : Result} {out out'' code'' values'' fields'' : List ℕ} (n words main : ℕ) → Checks text code values r code' values' → r ≡ checked.Accepted n words main
+  pub judged-carried : {R : Result} {out out'' code'' values'' fields'' : List ℕ} (m : answers.Accepted) → Checks text code values r code' values' → r ≡ Ok m
       → Tells R out code' values' fields out'' code'' values'' fields'' → Tells R out code values fields out'' code'' values'' fields''
   unfolding Judges
-  judged-carried {R} {out} {out''} {code''} {values''} {fields''} n words main c e t = by-verdict (verdict text) (judges c)
+  judged-carried {R} {out} {out''} {code''} {values''} {fields''} m c e t = by-verdict (verdict text) (judges c)
     where
       by-verdict : (v : Verdict) → Judges text code values v r code' values' → Tells R out code values fields out'' code'' values'' fields''
-      by-verdict (refused_by f) j = apart (not-both j.answer e)
+      by-verdict (refused_by f) j = apart (not-both j.answer.answer e)
       by-verdict (accepted a) j =
           record {
             output = t.output;

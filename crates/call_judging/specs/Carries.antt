@@ -1,9 +1,8 @@
 -- The parts of a call that carries out a text: what is asked of a run, and what it leaves in the stores.
-use Rattle.std.specs.Prelude.{◌≡◌, List, ◌++◌, ℕ, ◌<◌, ◌≤◌, length, take, drop}
+use Rattle.std.specs.Prelude.{◌≡◌, Ok, List, ◌++◌, ℕ, ◌<◌, ◌≤◌, length, take, drop}
 use Rattle.paper.specs.Undoing.{Asked}
 use Rattle.paper.specs.Answer.{Accepted, accepted, verdict, depth_limit, Question, cells_of}
 use Rattle.layout.specs.Named.{store_bytes}
-use Rattle.check_whole.specs.declared.Checked.TheVariants as checked
 use Rattle.check_whole.specs.Checks.{Ready}
 use Rattle.run_whole.specs.declared.Abort.{Abort}
 use Rattle.run_whole.specs.declared.Ended.{Ended}
@@ -23,7 +22,7 @@ pub record Accepts (text code values fields : List ℕ) (words main depth : ℕ)
   pub a : Accepted
   pub n : ℕ
   pub judged : verdict text ≡ accepted a
-  pub ready : Ready text code values a (checked.Accepted n words main) code values
+  pub ready : Ready text code values a (Ok (record { words = n; count = words; main = main })) code values
   pub rooms : Rooms code values fields
   pub some : 0 < depth
   pub most : depth ≤ depth_limit

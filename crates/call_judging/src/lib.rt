@@ -1,4 +1,4 @@
-// The text of a call judged: checked, and refused or carried out.
+// The text of a call judged: checked, and refused or carried out. What is lent stands one by one here and in the crates above, as the C interface lends it: each promise speaks of each.
 #![tactic(auto)]
 
 ghost use Rattle.std.specs.Prelude.{◌<◌, ◌≤◌};
@@ -7,7 +7,6 @@ ghost use Rattle.call_records.specs.Leaves.{Rooms, Tells};
 ghost use Rattle.call_judging.specs.Carries.{asked_by, put, Accepts, Starts, Ends};
 
 use call_records::{refuse, settle};
-use check_whole::Checked;
 use layout::limits;
 use run_whole::{Abort, Ended};
 
@@ -58,7 +57,15 @@ fn carry_out<'a>(
     ensures { Tells (carried_out (put (asked_by abort) text.now steps depth inputs.now out.old) (verdict text.now)) out.old code.old values.old fields.old out.new code.new values.new fields.new }
 {
     let e = run_words(text, steps, depth, inputs, out, code, values, main, abort);
-    settle(code, values, fields, e.ending, e.place, e.made, words);
+    settle(
+        code,
+        values,
+        fields,
+        e.ending.number(),
+        e.place,
+        e.made,
+        words,
+    );
 }
 
 // Checks the module text, and refuses it or carries it out.
@@ -77,9 +84,19 @@ pub fn judge<'a>(
     ensures { Tells (carried_out (put (asked_by abort) text.now steps depth inputs.now out.old) (verdict text.now)) out.old code.old values.old fields.old out.new code.new values.new fields.new }
 {
     match check_whole::check(text, code, values) {
-        Checked::Refused(number, offset) => refuse(fields, number, offset),
-        Checked::Accepted(_, words, main) => carry_out(
-            text, steps, depth, inputs, out, code, values, fields, words, main, abort,
+        Err(refusal) => refuse(fields, refusal.rule.number(), refusal.place),
+        Ok(module) => carry_out(
+            text,
+            steps,
+            depth,
+            inputs,
+            out,
+            code,
+            values,
+            fields,
+            module.count,
+            module.main,
+            abort,
         ),
     }
 }

@@ -2,13 +2,12 @@
 #![tactic(auto)]
 
 ghost use Rattle.std.specs.Prelude.{◌≤◌, length};
-ghost use Rattle.std.specs.Io.{ReadsAtMost};
 ghost use Rattle.call_lesson.specs.Bench.{text_room, Benched};
 
 use call_screen::Shown;
+use call_screen::streams::read_full;
 use layout::limits;
 use std::io;
-use std::io::{Read, Write};
 
 // The bytes that a text may have and one more, by which a longer text is known.
 const TEXT: usize = limits::TEXT + 1;
@@ -39,30 +38,10 @@ fn bench(text: &[u8], out: &mut [u8; OUTPUT], line: &mut [u8; call_screen::LINE]
     )
 }
 
-// Reads until the buffer is full or the input ends. How many bytes stand at its front then.
-fn read_full<R: Read>(reader: &mut R, buf: &mut [u8]) -> io::Result<usize>
-    ensures { ReadsAtMost result buf.new }
-{
-    let mut done = 0;
-    while done < buf.len() {
-        let n = reader.read(&mut buf[done..])?;
-        if n == 0 {
-            break;
-        }
-        done += n;
-    }
-    Ok(done)
-}
-
 fn main(rt: HostRuntime) -> io::Result<()> {
     let mut text = [0u8; TEXT];
     let n = read_full(&mut rt.stdin(), &mut text)?;
     let mut out = [0u8; OUTPUT];
     let mut line = [0u8; call_screen::LINE];
-    let shown = bench(&text[..n], &mut out, &mut line);
-    let written = shown.output;
-    let told = shown.line;
-    let mut writer = rt.stdout();
-    writer.write_all(&out[..written])?;
-    writer.write_all(&line[..told])
+    bench(&text[..n], &mut out, &mut line).print(&mut rt.stdout(), &out, &line)
 }

@@ -9,11 +9,12 @@ use Rattle.paper.specs.Words as paper
 use Rattle.paper.specs.Words.{Listed, Reading, reading, no_words, listed, listing}
 use Rattle.text_words.specs.declared.Word.{Word}
 use Rattle.text_words.specs.declared.Cursor.{Cursor}
-use Rattle.text_words.specs.declared.Step.{Step}
-use Rattle.text_words.specs.declared.Step.TheVariants as steps
-use Rattle.text_words.specs.Answers.{after, Started, Stepped, left_of}
+use Rattle.std.specs.Prelude as code
+use Rattle.std.specs.Prelude.{None, Some, Ok, Err}
+use Rattle.text_words.specs.declared.Refusal as refusals
+use Rattle.text_words.specs.Answers.{as_refusal, Step, after, Started, Stepped, left_of}
 use Rattle.text_words.proofs.Readings.{Given, Gives, step_gives, step-ends, step-refuses, start_left}
-use Rattle.call_listing.specs.Listing.{listed_of, entered, written, refusal_number, refusal_offset, Listed·all}
+use Rattle.call_listing.specs.Listing.{listed_of, entered, written, refused_as, Listed·all}
 use Rattle.call_listing.proofs.Entries.{length-entered}
 
 abbrev left_list : List ℕ → Cursor → List Listed
@@ -43,23 +44,26 @@ module _ (text before out : List ℕ) (c : Cursor) (at : Lists text before out c
     size = ap length e ∙ length-entered out c.words (listed v) ∙ at.size;
   }
 
-  done : (o : Reading) → left_of text c ≡ o → o.words ≡ [] → Listed·all text before out (record { words = c.words; refusal = refusal_number o.refusal; offset = refusal_offset o.refusal })
+  done : (o : Reading) → left_of text c ≡ o → o.words ≡ [] → (q : code.Option refusals.Refusal) → refused_as q ≡ o.refusal → Listed·all text before out (record { words = c.words; refusal = q })
   unfolding written
-  done o left gone =
+  done o left gone q e =
       let empty : (left_of text c).words ≡ [] = ap (λ (x : Reading). x.words) left ∙ gone in
-      let refusal_is : (listing text).1 ≡ o.refusal = at.refused ∙ ap (λ (x : Reading). x.refusal) left in
-      let count-is : c.words ≡ length (listing text).0 = sym (at.count ∙ rw empty (omega arith)) in
-      record { entries = sym (at.entries ∙ rw empty); summary = rw (count-is, refusal_is) }
+      record {
+        entries = sym (at.entries ∙ rw empty);
+        count = sym (at.count ∙ rw empty (omega arith));
+        refusal = e ∙ sym (at.refused ∙ ap (λ (x : Reading). x.refusal) left);
+      }
 
   module _ (r : Step) (is : Stepped text c r) where
-    pub lists-word : (out' : List ℕ) (w : Word) (d : Cursor) → r ≡ steps.Word w d → out' ≡ entered out c.words (listed_of w) → Lists text before out' d
-    unfolding listed
-    lists-word out' w d e f =
-        let g : Gives text c w d = step_gives text c r is w d e in
-        subst (Lists text before out') (sym g.cursor-is) (word_on out' g.paper-word g.given (f ∙ ap (λ (x : Word). entered out c.words (listed_of x)) g.word-is))
+    module _ (o : code.Option (Word × Cursor)) (e : r ≡ Ok o) where
+      pub lists-word : (out' : List ℕ) (w : Word) (d : Cursor) → o ≡ Some (w, d) → out' ≡ entered out c.words (listed_of w) → Lists text before out' d
+      unfolding listed
+      lists-word out' w d k f =
+          let g : Gives text c w d = step_gives text c r is w d (e ∙ ap Ok k) in
+          subst (Lists text before out') (sym g.cursor-is) (word_on out' g.paper-word g.given (f ∙ ap (λ (x : Word). entered out c.words (listed_of x)) g.word-is))
 
-    pub lists-end : r ≡ steps.End → Listed·all text before out (record { words = c.words; refusal = 0; offset = 0 })
-    lists-end e = done (no_words none) (step-ends text c r is e) refl
+      pub lists-end : o ≡ None → Listed·all text before out (record { words = c.words; refusal = None })
+      lists-end k = done (no_words none) (step-ends text c r is (e ∙ ap Ok k)) refl None refl
 
-    pub lists-refused : (k p : ℕ) → r ≡ steps.Refused k p → Listed·all text before out (record { words = c.words; refusal = k; offset = p })
-    lists-refused k p e = done (no_words (some (record { number = k; offset = p }))) (step-refuses text c r is k p e) refl
+    pub lists-refused : (q : refusals.Refusal) → r ≡ Err q → Listed·all text before out (record { words = c.words; refusal = Some q })
+    lists-refused q e = done (no_words (some (as_refusal q))) (step-refuses text c r is q e) refl (Some q) refl

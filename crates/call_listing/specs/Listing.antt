@@ -1,10 +1,14 @@
 -- The paper's listing as bytes.
 use Rattle.std.specs.Prelude.{◌≡◌, true, false, List, [], ◌∷◌, ◌++◌, ℕ, ◌+◌, ◌*◌, ◌/◌, ◌%◌, ltb, length, take, drop}
+use Rattle.std.specs.Prelude as code
+use Rattle.std.specs.Prelude.{None, Some}
 use Rattle.std.proofs.Math.Option.{Option, none, some}
 use Rattle.laws.specs.Lists.{replaced}
 use Rattle.store_cells.specs.Cells.{bytes_of}
 use Rattle.paper.specs.Words.{Refusal, Kind, a_name, a_reserved, a_number, a_string, a_sign, kind_of, Listed, listing}
 use Rattle.text_words.specs.declared.Word.{Word}
+use Rattle.text_words.specs.declared.Refusal as refusals
+use Rattle.text_words.specs.Answers.{as_refusal}
 use Rattle.call_listing.specs.declared.Summary.{Summary}
 
 -- Three numbers: four bytes each, low byte first.
@@ -57,13 +61,19 @@ abbrev pub refusal_offset : Option Refusal → ℕ
 refusal_offset none = 0
 refusal_offset (some r) = r.offset
 
--- how many words there are, and the refusal
-abbrev pub summary_of : List Listed × Option Refusal → Summary
-summary_of l = record { words = length l.0; refusal = refusal_number l.1; offset = refusal_offset l.1 }
+-- a refusal that may be, as the paper tells it
+abbrev pub refused_as : code.Option refusals.Refusal → Option Refusal
+refused_as None = none
+refused_as (Some q) = some (as_refusal q)
 
 pub record Listed·all (text before after : List ℕ) (r : Summary) : Type 0 where
   pub entries : after ≡ written before 0 (listing text).0
-  pub summary : r ≡ summary_of (listing text)
+  pub count : r.words ≡ length (listing text).0
+  pub refusal : refused_as r.refusal ≡ (listing text).1
+
+-- the end of a listing at the front of a slice
+abbrev pub summary_put : List ℕ → Summary → List ℕ
+summary_put answer s = three_put answer 0 s.words (refusal_number (refused_as s.refusal)) (refusal_offset (refused_as s.refusal))
 
 -- ---- what is promised
 -- A slice with these bytes at its front: what lies behind them stays.

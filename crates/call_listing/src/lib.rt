@@ -3,10 +3,10 @@
 
 ghost use Rattle.std.specs.Prelude.{◌≡◌, ◌+◌, ◌*◌, ◌%◌, ◌≤◌, length};
 ghost use Rattle.paper.specs.Words.{kind_of};
-ghost use Rattle.call_listing.specs.Listing.{kind_number, entered, listed_of, three_put, Listed·all, Exported};
+ghost use Rattle.call_listing.specs.Listing.{kind_number, entered, listed_of, three_put, summary_put, Listed·all, Exported};
 
 use text_sorts::{FIRST_RESERVED, FIRST_SIGN, NUMBER, STRING};
-use text_words::{Cursor, Step, Word};
+use text_words::{Cursor, Refusal, Word};
 
 // The bytes of three numbers: an entry has as many, and the answer.
 const THREE: usize = 12;
@@ -28,7 +28,7 @@ fn put_three(out: &mut [u8], i: usize, a: usize, b: usize, c: usize)
     store_cells::put(out, i + 2, low32(c));
 }
 
-// Name 0, reserved 1, number 2, string 3, sign 4.
+// Name 0, reserved 1, number 2, string 3, sign 4: the numbers that C is told.
 fn kind_number(sort: u32) -> usize
     ensures { result ≡ kind_number (kind_of sort) }
 {
@@ -58,12 +58,11 @@ fn put_entry(out: &mut [u8], index: u32, word: Word)
     put_three(out, i, kind_number(word.sort), word.place, word.length);
 }
 
-// How a listing ends: how many words there are, and the refusal, 0 at 0 where there is none.
+// How a listing ends: how many words there are, and the refusal, if there is one.
 #[derive(Drop)]
 struct Summary {
     words: u32,
-    refusal: u32,
-    offset: usize,
+    refusal: Option<Refusal>,
 }
 
 // Lists a text, one word after another, by the word reader.
@@ -74,25 +73,41 @@ fn list(text: &[u8], out: &mut [u8]) -> Summary
     loop {
         let words = c.words;
         match text_reader::read(text, c.place, words) {
-            Step::Word(word, next) => {
+            Ok(Some((word, next))) => {
                 put_entry(out, words, word);
                 c = next;
             }
-            Step::End => {
+            Ok(None) => {
                 return Summary {
                     words,
-                    refusal: 0,
-                    offset: 0,
+                    refusal: None,
                 };
             }
-            Step::Refused(number, place) => {
+            Err(refusal) => {
                 return Summary {
                     words,
-                    refusal: number,
-                    offset: place,
+                    refusal: Some(refusal),
                 };
             }
         }
+    }
+}
+
+// The end of a listing in the answer: the refusal's number and its place, 0 at 0 where there is none.
+fn put_summary(answer: &mut [u8], s: Summary)
+    requires { 12 ≤ length answer.old }
+    ensures { answer.new ≡ summary_put answer.old s }
+{
+    let words = s.words as usize;
+    match s.refusal {
+        Some(refusal) => put_three(
+            answer,
+            0,
+            words,
+            refusal.rule.number() as usize,
+            refusal.place,
+        ),
+        None => put_three(answer, 0, words, 0, 0),
     }
 }
 
@@ -104,7 +119,6 @@ pub fn rapid_list(text: &[u8], out: &mut [u8], answer: &mut [u8]) -> u32
     if answer.len() < THREE {
         return 0;
     }
-    let s = list(text, out);
-    put_three(answer, 0, s.words as usize, s.refusal as usize, s.offset);
+    put_summary(answer, list(text, out));
     1
 }

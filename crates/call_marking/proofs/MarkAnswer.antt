@@ -4,7 +4,6 @@ use mathlib.Core.Bool.{Bool, true, false, ◌||◌}
 use mathlib.Core.List.{List}
 use mathlib.Core.Option.{Option, none}
 use Prim.Native.Nat.{ℕ, ◌≤◌, ◌<◌}
-use lib.Dec.{ltb}
 use lib.ListN.{length}
 use borrow.Author.Tests.{lt-ltb, le-ltb}
 use Rattle.paper.specs.Undoing.{plainly}
@@ -12,13 +11,13 @@ use Rattle.paper.specs.Answer.{record_size, BytesAnswer, Verdict, refused_by, ac
 use Rattle.layout.specs.Named.{store_bytes}
 use Rattle.layout.specs.Rules.{small_store, wrong_depth}
 use Rattle.call_records.specs.Records.{refused_fields, Written}
-use Rattle.call_records.specs.Leaves.{Refuses, Tells}
+use Rattle.call_records.specs.Leaves.{Refuses}
 use Rattle.call_records.proofs.Stores.{AllBytes}
 use Rattle.call_records.proofs.Depths.{is_bad}
 use Rattle.call_judging.specs.Carries.{put}
 use Rattle.call_judging.specs.Calls.{lent, Calls}
 use Rattle.call_judging.proofs.PaperAnswer.{small-code, small-values, call-deep, call-judged, few-code, few-values, not-small}
-use Rattle.marks.specs.Marks.{listing_of, judged, ours, Marking, beside, mark, entries_of, mark_size, plain_call, answer_after, mark_of, too_few, mark_call, MarkLent, MarkAnswer}
+use Rattle.marks.specs.Marks.{listing_of, judged, ours, beside, mark, entries_of, mark_size, plain_call, answer_after, mark_of, too_few, mark_call, MarkLent}
 use Rattle.call_marking.specs.Marks.{mark_lent, Marks}
 use Rattle.call_marking.specs.Carries.{asks, TellsMark}
 

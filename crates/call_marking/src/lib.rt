@@ -1,4 +1,4 @@
-// Another simulator's listing marked: the whole call, numbers and byte slices only.
+// Another simulator's listing marked: the whole call, numbers and byte slices only, and 1 or 0 back, for the C interface.
 #![tactic(auto)]
 
 ghost use Rattle.std.specs.Prelude.{◌<◌, ◌≤◌, length};
@@ -10,8 +10,8 @@ ghost use Rattle.call_marking.specs.Marks.{mark_lent, Marks};
 ghost use Rattle.call_marking.specs.Carries.{EndsBeside, Answers, TellsMark};
 
 use call_records::{bad_depth, refuse, refuse_depth, settle};
-use check_whole::Checked;
-use layout::{limits, rules};
+use layout::limits;
+use layout::rules::Rule;
 use run_marking::Marked;
 
 // bytes of the answer
@@ -74,8 +74,16 @@ fn carry_out<'a>(
     ensures { TellsMark text.now steps depth inputs.now listing.now out.old code.old values.old fields.old answer.old out.new code.new values.new fields.new answer.new }
 {
     let r = mark_words(text, steps, depth, inputs, out, code, values, listing, main);
-    settle(code, values, fields, r.ending, r.place, r.made, words);
-    put_mark(answer, r.same, r.index);
+    settle(
+        code,
+        values,
+        fields,
+        r.ending.number(),
+        r.place,
+        r.made,
+        words,
+    );
+    put_mark(answer, u32::from(r.same), r.index);
 }
 
 // Checks the module text, and refuses it or carries it out.
@@ -95,9 +103,20 @@ fn judge<'a>(
     ensures { TellsMark text.now steps depth inputs.now listing.now out.old code.old values.old fields.old answer.old out.new code.new values.new fields.new answer.new }
 {
     match check_whole::check(text, code, values) {
-        Checked::Refused(number, offset) => refuse(fields, number, offset),
-        Checked::Accepted(_, words, main) => carry_out(
-            text, steps, depth, inputs, out, code, values, listing, fields, answer, words, main,
+        Err(refusal) => refuse(fields, refusal.rule.number(), refusal.place),
+        Ok(module) => carry_out(
+            text,
+            steps,
+            depth,
+            inputs,
+            out,
+            code,
+            values,
+            listing,
+            fields,
+            answer,
+            module.count,
+            module.main,
         ),
     }
 }
@@ -117,18 +136,11 @@ pub fn rapid_mark<'a>(
 ) -> u32
     ensures { Marks (mark_lent text.now steps depth inputs.now out.old code.old values.old listing.now fields.old answer.old) result out.new code.new values.new fields.new answer.new }
 {
-    if fields.len() < limits::RECORD_BYTES {
+    if fields.len() < limits::RECORD_BYTES || answer.len() < ANSWER_BYTES {
         return 0;
     }
-    if answer.len() < ANSWER_BYTES {
-        return 0;
-    }
-    if code.len() < limits::STORE_BYTES {
-        refuse(fields, rules::SMALL_STORE, 0);
-        return 1;
-    }
-    if values.len() < limits::STORE_BYTES {
-        refuse(fields, rules::SMALL_STORE, 0);
+    if code.len() < limits::STORE_BYTES || values.len() < limits::STORE_BYTES {
+        refuse(fields, Rule::SmallStore.number(), 0);
         return 1;
     }
     if bad_depth(depth) {

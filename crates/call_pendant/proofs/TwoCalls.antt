@@ -1,10 +1,10 @@
 -- The two exported calls: what they ask of the one behind them.
-use mathlib.Core.Path.{◌≡◌, refl, sym, ◌∙◌}
+use mathlib.Core.Path.{◌≡◌, sym, ◌∙◌}
 use mathlib.Core.List.{List}
 use Prim.Native.Nat.{ℕ}
 use borrow.Author.Tests.{eq-eqb, ne_eqb}
 use Rattle.paper.specs.Undoing.{plainly}
-use Rattle.paper.specs.Answer.{pendant_call, untouched, flagged_call}
+use Rattle.paper.specs.Answer.{flagged_call}
 use Rattle.run_whole.specs.declared.Abort.TheVariants.{Never, At}
 use Rattle.run_whole.specs.Runs.{abort_of}
 use Rattle.call_judging.specs.Carries.{asked_by}

@@ -1,4 +1,4 @@
-// The whole call, as the pendant makes it: numbers and byte slices only.
+// The whole call, as the pendant makes it: numbers and byte slices only, and 1 or 0 back, for the C interface.
 #![tactic(auto)]
 
 ghost use Rattle.paper.specs.Undoing.{plainly};
@@ -7,7 +7,8 @@ ghost use Rattle.call_pendant.specs.Calls.{lent, Calls, until, FlaggedCalls};
 
 use call_judging::judge;
 use call_records::{bad_depth, refuse, refuse_depth};
-use layout::{limits, rules};
+use layout::limits;
+use layout::rules::Rule;
 use run_whole::Abort;
 
 // Checks the module text and carries it out. 1, or 0 where the record is too short, and then nothing is touched.
@@ -27,12 +28,8 @@ fn call<'a>(
     if fields.len() < limits::RECORD_BYTES {
         return 0;
     }
-    if code.len() < limits::STORE_BYTES {
-        refuse(fields, rules::SMALL_STORE, 0);
-        return 1;
-    }
-    if values.len() < limits::STORE_BYTES {
-        refuse(fields, rules::SMALL_STORE, 0);
+    if code.len() < limits::STORE_BYTES || values.len() < limits::STORE_BYTES {
+        refuse(fields, Rule::SmallStore.number(), 0);
         return 1;
     }
     if bad_depth(depth) {

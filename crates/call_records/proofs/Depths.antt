@@ -4,18 +4,12 @@ use mathlib.Core.Bool.{Bool, true, false, ◌||◌}
 use Prim.Native.Nat.{ℕ, ◌<◌, ◌≤◌}
 use native.Mathlib.Omega.{arith}
 use lib.Dec.{eqb, ltb}
-use borrow.Author.Tests.{eq-eqb, ne_eqb, eqb-false, ltb-false}
+use borrow.Author.Tests.{eqb-false, ltb-false}
 use Rattle.laws.proofs.Tests.{false-true}
 use Rattle.paper.specs.Answer.{depth_limit}
 
 abbrev pub is_bad : ℕ → Bool
 is_bad d = eqb d 0 || ltb depth_limit d
-
-pub bad-none : (d : ℕ) → d ≡ 0 → true ≡ is_bad d
-bad-none d e = rw (eq-eqb d 0 e)
-
-pub bad-some : (d : ℕ) → (d ≡ 0 → ⊥) → ltb depth_limit d ≡ is_bad d
-bad-some d n = rw (ne_eqb d 0 n)
 
 neither : (a b : Bool) → false ≡ (a || b) → (a ≡ false) × (b ≡ false)
 neither false false e = (refl, refl)

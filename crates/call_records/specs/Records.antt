@@ -5,11 +5,12 @@ use Rattle.store_cells.specs.Cells.{cells_of, Cleared}
 use Rattle.code.specs.Cells.{errno_cell}
 use Rattle.code.specs.Windows.{written_cell, used_cell, count_at}
 use Rattle.layout.specs.Named.{store_bytes}
+use Rattle.call_records.specs.declared.Record as lent
 
 -- ---- the record
-abbrev pub fields_of : (ending refusal offset steps errno output inputs words : ℕ) → Record
-fields_of ending refusal offset steps errno output inputs words =
-    record { ending = ending; refusal = refusal; offset = offset; steps = steps; errno = errno; output = output; inputs = inputs; words = words }
+abbrev pub fields_of : lent.Record → Record
+fields_of r =
+    record { ending = r.ending; refusal = r.refusal; offset = r.offset; steps = r.steps; errno = r.errno; output = r.output; inputs = r.inputs; words = r.words }
 
 unfoldable pub refused_fields : (number offset : ℕ) → Record
 refused_fields number offset = (refused_with (record { number = number; offset = offset })).fields
@@ -18,7 +19,7 @@ refused_fields number offset = (refused_with (record { number = number; offset =
 unfoldable pub reported : (ending place made : ℕ) → (values : List ℕ) → (words : ℕ) → Record
 reported ending place made values words =
     let X = cells_of values in
-    fields_of ending 0 place made (get_or X errno_cell 0) (count_at X written_cell) (count_at X used_cell) words
+    record { ending = ending; refusal = 0; offset = place; steps = made; errno = get_or X errno_cell 0; output = count_at X written_cell; inputs = count_at X used_cell; words = words }
 
 -- The record has these fields now, and every byte past it is as it was.
 pub record Written (before after : List ℕ) (f : Record) : Type 0 where

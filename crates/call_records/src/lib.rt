@@ -1,4 +1,5 @@
-// What a call leaves: the record, and the stores with all but a module's words cleared.
+// What a call leaves: the record, and the stores with all but a module's words cleared. An ending and a rule stand in a record by their numbers, for the C interface; and
+// refuse, report and settle promise what they leave for every number, so that a Rule or an Ending would ask more.
 #![tactic(auto)]
 
 ghost use Rattle.std.specs.Prelude.{◌≡◌, ◌||◌, ◌+◌, ◌*◌, ◌≤◌, eqb, ltb, length};
@@ -10,7 +11,8 @@ ghost use Rattle.call_records.specs.Records.{fields_of, refused_fields, Written,
 ghost use Rattle.call_records.specs.Leaves.{Rooms, Refuses, Settles, Settled};
 
 use layout::cells::{ERRNO, USED, USED_HIGH, WRITTEN, WRITTEN_HIGH};
-use layout::{limits, rules};
+use layout::limits;
+use layout::rules::Rule;
 
 // A number from its two halves.
 fn joined(low: u32, high: u32) -> u64
@@ -19,9 +21,9 @@ fn joined(low: u32, high: u32) -> u64
     low as u64 + layout::cells::HALF as u64 * (high as u64)
 }
 
-// Writes the record, field by field.
-fn put_record(
-    fields: &mut [u8],
+// The record, field by field.
+#[derive(Clone, Copy)]
+struct Record {
     ending: u64,
     refusal: u64,
     offset: u64,
@@ -30,26 +32,48 @@ fn put_record(
     output: u64,
     inputs: u64,
     words: u64,
-)
-    requires { record_size ≤ length fields.old }
-    ensures { Written fields.old fields.new (fields_of ending refusal offset steps errno output inputs words) }
-{
-    store_cells::put_field(fields, 0, ending);
-    store_cells::put_field(fields, 1, refusal);
-    store_cells::put_field(fields, 2, offset);
-    store_cells::put_field(fields, 3, steps);
-    store_cells::put_field(fields, 4, errno);
-    store_cells::put_field(fields, 5, output);
-    store_cells::put_field(fields, 6, inputs);
-    store_cells::put_field(fields, 7, words);
 }
 
-// Writes the record of a refusal: the rule broken and its offset, and all else 0.
+// All of it 0.
+const NOTHING: Record = Record {
+    ending: 0,
+    refusal: 0,
+    offset: 0,
+    steps: 0,
+    errno: 0,
+    output: 0,
+    inputs: 0,
+    words: 0,
+};
+
+impl Record {
+    // Writes it.
+    fn put(self, fields: &mut [u8])
+        requires { record_size ≤ length fields.old }
+        ensures { Written fields.old fields.new (fields_of self) }
+    {
+        store_cells::put_field(fields, 0, self.ending);
+        store_cells::put_field(fields, 1, self.refusal);
+        store_cells::put_field(fields, 2, self.offset);
+        store_cells::put_field(fields, 3, self.steps);
+        store_cells::put_field(fields, 4, self.errno);
+        store_cells::put_field(fields, 5, self.output);
+        store_cells::put_field(fields, 6, self.inputs);
+        store_cells::put_field(fields, 7, self.words);
+    }
+}
+
+// Writes the record of a refusal: the number of the rule broken and its offset, and all else 0.
 pub fn refuse(fields: &mut [u8], number: u32, offset: usize)
     requires { record_size ≤ length fields.old }
     ensures { Written fields.old fields.new (refused_fields number offset) }
 {
-    put_record(fields, 0, number as u64, offset as u64, 0, 0, 0, 0, 0);
+    let refused = Record {
+        refusal: number as u64,
+        offset: offset as u64,
+        ..NOTHING
+    };
+    refused.put(fields);
 }
 
 // Writes the record of a run that has ended after so many steps, from what it leaves in the value store.
@@ -57,26 +81,23 @@ pub fn report(values: &[u8], fields: &mut [u8], ending: u32, place: usize, made:
     requires { Reports values.now fields.old }
     ensures { Written fields.old fields.new (reported ending place made values.now words) }
 {
-    let errno = store_cells::get(values, ERRNO);
-    let output = joined(
-        store_cells::get(values, WRITTEN),
-        store_cells::get(values, WRITTEN_HIGH),
-    );
-    let used = joined(
-        store_cells::get(values, USED),
-        store_cells::get(values, USED_HIGH),
-    );
-    put_record(
-        fields,
-        ending as u64,
-        0,
-        place as u64,
-        made,
-        errno as u64,
-        output,
-        used,
-        words as u64,
-    );
+    let ended = Record {
+        ending: ending as u64,
+        offset: place as u64,
+        steps: made,
+        errno: store_cells::get(values, ERRNO) as u64,
+        output: joined(
+            store_cells::get(values, WRITTEN),
+            store_cells::get(values, WRITTEN_HIGH),
+        ),
+        inputs: joined(
+            store_cells::get(values, USED),
+            store_cells::get(values, USED_HIGH),
+        ),
+        words: words as u64,
+        ..NOTHING
+    };
+    ended.put(fields);
 }
 
 // Clears both stores, but for so many words of the values.
@@ -92,10 +113,7 @@ pub fn empty(code: &mut [u8], values: &mut [u8], words: usize)
 pub fn bad_depth(depth: u32) -> bool
     ensures { result ≡ (eqb depth 0 || ltb depth_limit depth) }
 {
-    if depth == 0 {
-        return true;
-    }
-    limits::DEEPEST < depth
+    depth == 0 || limits::DEEPEST < depth
 }
 
 // Empties both stores and refuses the depth.
@@ -104,7 +122,7 @@ pub fn refuse_depth(code: &mut [u8], values: &mut [u8], fields: &mut [u8])
     ensures { Refuses wrong_depth 0 code.old values.old fields.old code.new values.new fields.new }
 {
     empty(code, values, 0);
-    refuse(fields, rules::WRONG_DEPTH, 0);
+    refuse(fields, Rule::WrongDepth.number(), 0);
 }
 
 // Writes the record of a run that has ended, and clears the stores but for the module's words.

@@ -1,4 +1,5 @@
 -- Numbers put into a line, one behind the other.
+use Rattle.std.specs.Prelude.{Option, Some, None}
 use mathlib.Core.Path.{◌≡◌, refl, sym, ap, ap₂, subst, ◌∙◌}
 use mathlib.Core.List.{List, [], ◌∷◌, ◌++◌, append_assoc}
 use Prim.Native.Nat.{ℕ, zero, suc, ◌+◌, ◌*◌, ◌≤◌, ◌<◌}
@@ -16,8 +17,6 @@ use Rattle.paper.specs.Answer.{record_size}
 use Rattle.paper.specs.Numbers.{decimal}
 use Rattle.store_cells.specs.Cells.{cells_of, Got}
 use Rattle.run_decimals.specs.Placed.{PutsNumber}
-use Rattle.run_decimals.specs.declared.Put.{Put}
-use Rattle.run_decimals.specs.declared.Put.TheVariants.{Done, NoRoom}
 use Rattle.run_decimals.proofs.Answers.{Whole, was-done, had-none}
 use Rattle.run_decimals.proofs.Digits.{few}
 use Rattle.call_screen.specs.Screen.{field_room, line_room, numbered, line_of, behind_at, low_fields, PutOne, PutLine}
@@ -31,15 +30,15 @@ word_number : (n : ℕ) → Fits w32 n → to_z w64 n ≡ pos n
 word_number n h = rw (lt-ltb n 9223372036854775808 (omega (arith, h.fits)))
 
 -- ---- one number
-module _ (before mid : List ℕ) (at n : ℕ) (h : Fits w32 n) (room : at + field_room ≤ length before) (r : Put) (p : PutsNumber before mid at (to_z w64 n) r) where
+module _ (before mid : List ℕ) (at n : ℕ) (h : Fits w32 n) (room : at + field_room ≤ length before) (r : Option ℕ) (p : PutsNumber before mid at (to_z w64 n) r) where
   puts : PutsNumber before mid at (pos n) r
   puts = rw (word_number n h) at p
 
   -- there is room
-  pub one_none : (behind : ℕ) → r ≡ NoRoom → PutOne before mid at n behind at
+  pub one_none : (behind : ℕ) → r ≡ None → PutOne before mid at n behind at
   one_none behind e = absurd (omega (arith, few-digits n, (had-none before mid at (decimal (pos n)) (rw e at puts)).lack))
 
-  module _ (next : ℕ) (e : r ≡ Done next) where
+  module _ (next : ℕ) (e : r ≡ Some next) where
     whole : Whole before mid at (decimal (pos n)) next
     whole = was-done before mid at (decimal (pos n)) next (rw e at puts)
 
@@ -121,7 +120,7 @@ pub lined-none : (line fields : List ℕ) → Lined line line fields 0 0
 unfolding first_of
 lined-none line fields = record { few = omega arith; near = omega arith; size = refl; begun = begun-none line }
 
-module _ (before line fields : List ℕ) (k at : ℕ) (l : Lined before line fields k at) (more : k ≤ 7) where
+module _ (before line fields : List ℕ) (k at : ℕ) (l : Lined before line fields k at) (more : k < 8) where
   pub lined-get : record_size ≤ length fields → k * 2 * 4 + 4 ≤ length fields
   lined-get room = omega arith
 
@@ -139,7 +138,7 @@ module _ (before line fields : List ℕ) (k at : ℕ) (l : Lined before line fie
         begun = rw (add-one k) (begun_more l.begun q);
       }
 
-pub lined-all : (before line fields : List ℕ) (k at : ℕ) → Lined before line fields k at → 7 < k → PutLine before line (low_fields fields) at
+pub lined-all : (before line fields : List ℕ) (k at : ℕ) → Lined before line fields k at → 8 ≤ k → PutLine before line (low_fields fields) at
 lined-all before line fields k at l past =
     let eight : k ≡ 8 = omega (arith, l.few) in
     let b : Begun before line (line_of (low_fields fields)) at = subst (λ (s : List ℕ). Begun before line s at) (ap (first_of (cells_of fields)) eight ∙ all-fields fields) l.begun in

@@ -1,25 +1,31 @@
 // What the bench programs print of a call: the output, then the eight fields of the record.
 #![tactic(auto)]
 
-ghost use Rattle.std.specs.Prelude.{◌≡◌, [], ◌+◌, ◌≤◌, length};
+pub mod streams;
+
+ghost use Rattle.std.specs.Prelude.{◌≡◌, [], ◌++◌, ◌+◌, ◌≤◌, length, take, OnOk};
+ghost use Rattle.std.specs.Io.KnownBytes.{Appends};
 ghost use Rattle.paper.specs.Undoing.{plainly};
 ghost use Rattle.paper.specs.Answer.{record_size};
 ghost use Rattle.call_pendant.specs.Calls.{lent};
 ghost use Rattle.call_screen.specs.Screen.{line_room, field_room, behind_at, PutOne, PutLine, low_fields, Lends, Shows};
 
 use layout::limits;
-use run_decimals::Put;
+use std::io;
+use std::io::Write;
 
 // The bytes of a line that has room for any record.
 pub const LINE: usize = 168;
 
 // What stands behind a field, and behind the last one.
-const BLANK: u8 = 32;
+const BLANK: u8 = b' ';
 
-const LINE_END: u8 = 10;
+const LINE_END: u8 = b'\n';
 
-// The last field of the record, and the word of it that counts the output.
-const LAST: usize = 7;
+// How many fields the record has, the last of them, and the word of it that counts the output.
+const FIELDS: usize = 8;
+
+const LAST: usize = FIELDS - 1;
 
 const OUTPUT: usize = 10;
 
@@ -29,11 +35,11 @@ fn put_one(line: &mut [u8], at: usize, n: u32, behind: u8) -> usize
     ensures { PutOne line.old line.new at n behind result }
 {
     match run_decimals::put_number(line, at, n as i64) {
-        Put::Done(next) => {
+        Some(next) => {
             line[next] = behind;
             next + 1
         }
-        Put::NoRoom => at,
+        None => at,
     }
 }
 
@@ -41,10 +47,7 @@ fn put_one(line: &mut [u8], at: usize, n: u32, behind: u8) -> usize
 fn behind(k: usize) -> u8
     ensures { result ≡ behind_at k }
 {
-    if k == LAST {
-        return LINE_END;
-    }
-    BLANK
+    if k == LAST { LINE_END } else { BLANK }
 }
 
 // Writes the record's fields as a line, each by its low word, the first of its two: no field of an answer is larger. How many bytes it has.
@@ -53,19 +56,28 @@ fn put_record(line: &mut [u8], fields: &[u8]) -> usize
     ensures { PutLine line.old line.new (low_fields fields.now) result }
 {
     let mut at = 0;
-    let mut k = 0;
-    while k <= LAST {
+    for k in 0..FIELDS {
         at = put_one(line, at, store_cells::get(fields, k * 2), behind(k));
-        k += 1;
     }
     at
 }
 
-// How much there is to show of a call: bytes of the output, and of the line.
+// How much there is to show of a call: bytes of the output, and of the line. They stand in what was lent, since there is no heap to hand them over in.
 #[derive(Drop)]
 pub struct Shown {
     pub output: usize,
     pub line: usize,
+}
+
+impl Shown {
+    // Prints it: the output, and then the line.
+    pub fn print<W: Write>(&self, writer: &mut W, out: &[u8], line: &[u8]) -> io::Result<()>
+        requires { (self.now.output ≤ length out.now) × (self.now.line ≤ length line.now) }
+        ensures { OnOk result (Appends (W.contents writer.old) (W.contents writer.new) (take self.now.output out.now ++ take self.now.line line.now)) }
+    {
+        writer.write_all(&out[..self.output])?;
+        writer.write_all(&line[..self.line])
+    }
 }
 
 // Makes the call, and writes its record as a line. What the lent memory holds then is what the call leaves there.

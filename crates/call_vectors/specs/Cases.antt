@@ -2,6 +2,7 @@
 use Rattle.std.specs.Prelude.{List, ℕ, ◌+◌, ◌*◌, ◌≤◌, length}
 use Rattle.paper.specs.Words.{text_limit}
 use Rattle.layout.specs.Named.{store_bytes}
+use Rattle.call_vectors.specs.declared.Case.{Case}
 
 -- texts and stores may be larger than they need be
 abbrev pub beyond : ℕ
@@ -14,17 +15,17 @@ abbrev pub most_output : ℕ
 most_output = 4096
 
 -- How much of everything a case asks for.
-pub record Asks (room code values inputs text : ℕ) : Type 0 where
-  pub room-few : room ≤ most_output
-  pub code-few : code ≤ store_bytes + beyond
-  pub values-few : values ≤ store_bytes + beyond
-  pub inputs-few : inputs ≤ most_inputs
-  pub text-few : text ≤ text_limit + beyond
+pub record Asks (case : Case) : Type 0 where
+  pub room-few : case.room ≤ most_output
+  pub code-few : case.codes ≤ store_bytes + beyond
+  pub values-few : case.worths ≤ store_bytes + beyond
+  pub inputs-few : case.inputs ≤ most_inputs
+  pub text-few : case.text ≤ text_limit + beyond
 
 -- The same, when its text and its inputs are read.
-pub record Lends (text inputs : List ℕ) (room code values : ℕ) : Type 0 where
+pub record Lends (case : Case) (text inputs : List ℕ) : Type 0 where
   pub text-few : length text ≤ text_limit + beyond
   pub inputs-few : length inputs ≤ most_inputs * 4
-  pub room-few : room ≤ most_output
-  pub code-few : code ≤ store_bytes + beyond
-  pub values-few : values ≤ store_bytes + beyond
+  pub room-few : case.room ≤ most_output
+  pub code-few : case.codes ≤ store_bytes + beyond
+  pub values-few : case.worths ≤ store_bytes + beyond

@@ -4,10 +4,10 @@
 // A case is a line of seven numbers, then its inputs, a line each, then its text and a line end. A number has ten digits and a byte behind them.
 #![tactic(auto)]
 
-ghost use Rattle.std.specs.Prelude.{◌+◌, ◌*◌, ◌≤◌, ◌<◌, length};
-ghost use Rattle.std.specs.Io.{ReadsAtMost};
+ghost use Rattle.std.specs.Prelude.{◌+◌, ◌*◌, ◌≤◌, length};
 ghost use Rattle.call_vectors.specs.Cases.{Lends, Asks};
 
+use call_screen::streams::read_full;
 use layout::limits;
 use std::io;
 use std::io::{Read, Write};
@@ -48,23 +48,13 @@ const STORE: usize = limits::STORE_BYTES + BEYOND;
 // More cases than there are.
 const CASES: u32 = 100000;
 
-fn wide(x: u8) -> u64
-    ensures { result < 256 }
-{
-    x as u64
-}
-
-// The number at a place.
+// The number at a place: ten bytes, each a digit by its low half, so that any bytes are one. `parse` would refuse some.
 fn number(s: &[u8], at: usize) -> u64
     requires { at + 10 ≤ length s.now }
 {
-    let mut v: u64 = 0;
-    let mut i = 0;
-    while i < DIGITS {
-        v = v % 1000000000 * 10 + wide(s[at + i]) % 16;
-        i += 1;
-    }
-    v
+    s[at..at + DIGITS]
+        .iter()
+        .fold(0, |v, digit| v % 1000000000 * 10 + u64::from(digit % 16))
 }
 
 // The same as a word of 32 bits.
@@ -79,155 +69,93 @@ fn count(s: &[u8], at: usize, most: usize) -> usize
     requires { at + 10 ≤ length s.now }
     ensures { result ≤ most }
 {
-    let n = number(s, at) as usize;
-    if n < most { n } else { most }
+    most.min(number(s, at) as usize)
 }
 
-// Reads until the buffer is full or the input ends. How many bytes stand at its front then.
-fn read_full<R: Read>(reader: &mut R, buf: &mut [u8]) -> io::Result<usize>
-    ensures { ReadsAtMost result buf.new }
-{
-    let mut done = 0;
-    while done < buf.len() {
-        let n = reader.read(&mut buf[done..])?;
-        if n == 0 {
-            break;
+// What a case asks for: the steps and the depth, so many bytes of output, of code and of values, so many inputs, and how long its text is.
+#[derive(Clone, Copy)]
+struct Case {
+    steps: u32,
+    depth: u32,
+    room: usize,
+    codes: usize,
+    worths: usize,
+    inputs: usize,
+    text: usize,
+}
+
+impl Case {
+    // The case that a first line asks for.
+    fn of(header: &[u8; HEADER]) -> Case
+        ensures { Asks result }
+    {
+        Case {
+            steps: word(header, 0),
+            depth: word(header, DEPTH_AT),
+            room: count(header, OUTPUT_AT, OUTPUT),
+            codes: count(header, CODE_AT, STORE),
+            worths: count(header, VALUES_AT, STORE),
+            inputs: count(header, INPUTS_AT, INPUTS),
+            text: count(header, TEXT_AT, TEXT),
         }
-        done += n;
     }
-    Ok(done)
+
+    // Reads its inputs and its text, and runs it.
+    fn run<R: Read, W: Write>(self, reader: &mut R, writer: &mut W) -> io::Result<()>
+        requires { Asks self }
+    {
+        let mut inputs = [0u8; INPUT_BYTES];
+        read_inputs(reader, &mut inputs, self.inputs)?;
+        let mut text = [0u8; TEXT];
+        read_full(reader, &mut text[..self.text])?;
+        let mut line_end = [0u8; 1];
+        read_full(reader, &mut line_end)?;
+        self.call(writer, &text[..self.text], &inputs[..self.inputs * 4])
+    }
+
+    // Lends as much as it asks for, makes the call, and prints its output and its record.
+    fn call<'a, W: Write>(self, writer: &mut W, text: &'a [u8], inputs: &'a [u8]) -> io::Result<()>
+        requires { Lends self text.now inputs.now }
+    {
+        let mut out = [0u8; OUTPUT];
+        let mut code = [0u8; STORE];
+        let mut values = [0u8; STORE];
+        let mut line = [0u8; call_screen::LINE];
+        let shown = call_screen::show(
+            text,
+            self.steps,
+            self.depth,
+            inputs,
+            &mut out[..self.room],
+            &mut code[..self.codes],
+            &mut values[..self.worths],
+            &mut line,
+        );
+        shown.print(writer, &out[..self.room], &line)
+    }
 }
 
-// Reads so many inputs into words of 32 bits.
+// Reads so many inputs into words of 32 bits. Where the input ends, the one read last counts again.
 fn read_inputs<R: Read>(reader: &mut R, inputs: &mut [u8], n: usize) -> io::Result<()>
     requires { n * 4 ≤ length inputs.old }
 {
     let mut digits = [0u8; NUMBER];
-    let mut i = 0;
-    while i < n {
+    for i in 0..n {
         read_full(reader, &mut digits)?;
         store_cells::put(inputs, i, word(&digits, 0));
-        i += 1;
     }
     Ok(())
-}
-
-// Reads so many bytes to the front of what is lent.
-fn read_part<R: Read>(reader: &mut R, part: &mut [u8], n: usize) -> io::Result<()>
-    requires { n ≤ length part.old }
-{
-    read_full(reader, &mut part[..n])?;
-    Ok(())
-}
-
-// Makes the call, and prints its output and its record.
-fn print_call<'a, W: Write>(
-    writer: &mut W,
-    text: &'a [u8],
-    steps: u32,
-    depth: u32,
-    inputs: &'a [u8],
-    out: &mut [u8],
-    code: &mut [u8],
-    values: &mut [u8],
-) -> io::Result<()>
-    requires { (length text.now < 4294967296) × ((length inputs.now < 4294967296) × (length out.old < 4294967296)) }
-{
-    let mut line = [0u8; call_screen::LINE];
-    let shown = call_screen::show(text, steps, depth, inputs, out, code, values, &mut line);
-    let written = shown.output;
-    let told = shown.line;
-    writer.write_all(&out[..written])?;
-    writer.write_all(&line[..told])
-}
-
-// Lends as much as a case asks for, so many bytes of output, of code and of values, and makes the call.
-fn lend<'a, W: Write>(
-    writer: &mut W,
-    text: &'a [u8],
-    steps: u32,
-    depth: u32,
-    inputs: &'a [u8],
-    room: usize,
-    codes: usize,
-    worths: usize,
-) -> io::Result<()>
-    requires { Lends text.now inputs.now room codes worths }
-{
-    let mut out = [0u8; OUTPUT];
-    let mut code = [0u8; STORE];
-    let mut values = [0u8; STORE];
-    print_call(
-        writer,
-        text,
-        steps,
-        depth,
-        inputs,
-        &mut out[..room],
-        &mut code[..codes],
-        &mut values[..worths],
-    )
-}
-
-// Reads a case's inputs and its text, which is so long, and runs it.
-fn read_case<R: Read, W: Write>(
-    reader: &mut R,
-    writer: &mut W,
-    steps: u32,
-    depth: u32,
-    room: usize,
-    codes: usize,
-    worths: usize,
-    many: usize,
-    long: usize,
-) -> io::Result<()>
-    requires { Asks room codes worths many long }
-{
-    let mut inputs = [0u8; INPUT_BYTES];
-    read_inputs(reader, &mut inputs, many)?;
-    let mut text = [0u8; TEXT];
-    read_part(reader, &mut text, long)?;
-    let mut line_end = [0u8; 1];
-    read_full(reader, &mut line_end)?;
-    let lent = many * 4;
-    lend(
-        writer,
-        &text[..long],
-        steps,
-        depth,
-        &inputs[..lent],
-        room,
-        codes,
-        worths,
-    )
-}
-
-// Reads what a case asks for, and then the rest of it.
-fn run<R: Read, W: Write>(reader: &mut R, writer: &mut W, header: &[u8; HEADER]) -> io::Result<()> {
-    read_case(
-        reader,
-        writer,
-        word(header, 0),
-        word(header, DEPTH_AT),
-        count(header, OUTPUT_AT, OUTPUT),
-        count(header, CODE_AT, STORE),
-        count(header, VALUES_AT, STORE),
-        count(header, INPUTS_AT, INPUTS),
-        count(header, TEXT_AT, TEXT),
-    )
 }
 
 fn main(rt: HostRuntime) -> io::Result<()> {
     let mut reader = rt.stdin();
     let mut writer = rt.stdout();
-    let mut left = CASES;
-    while 0 < left {
+    for _ in 0..CASES {
         let mut header = [0u8; HEADER];
         if read_full(&mut reader, &mut header)? < HEADER {
-            return Ok(());
+            break;
         }
-        run(&mut reader, &mut writer, &header)?;
-        left -= 1;
+        Case::of(&header).run(&mut reader, &mut writer)?;
     }
     Ok(())
 }

@@ -1,27 +1,40 @@
--- In which list a statement stands, by the list's number.
+-- In which list a statement stands, as the code names the list.
 use mathlib.Core.Path.{◌≡◌, ap}
-use mathlib.Core.Bool.{not, ◌||◌}
-use Prim.Native.Nat.{ℕ}
-use lib.Dec.{eqb}
-use Rattle.paper.specs.Checks.{WhichList, the_body, the_handler, the_undo, in_error, in_undo}
-use Rattle.check_around.specs.Around.{body_list, handler_list, undo_list, list_code}
+use mathlib.Core.Bool.{Bool, not, ◌||◌}
+use denote.Enum.Bare.{sameb}
+use Rattle.paper.specs.Checks.{the_body, the_handler, the_undo, in_error, in_undo}
+use Rattle.paper.specs.Checks as checks
+use Rattle.check_around.specs.contracts.lists.WhichList.{the_type}
+use Rattle.check_around.specs.declared.lists.WhichList.{WhichList}
+use Rattle.check_around.specs.declared.lists.WhichList.TheVariants.{Body, Handler, Undo}
+use Rattle.check_around.specs.Around.{list_code}
 
-module _ (n : ℕ) where
-  pub in-handler : (l : WhichList) → n ≡ list_code l → eqb n handler_list ≡ in_error l
+-- what a test for one of them gives
+abbrev pub is_body : WhichList → Bool
+is_body l = sameb the_type l Body
+
+abbrev pub is_handler : WhichList → Bool
+is_handler l = sameb the_type l Handler
+
+abbrev pub is_undo : WhichList → Bool
+is_undo l = sameb the_type l Undo
+
+module _ (n : WhichList) where
+  pub in-handler : (l : checks.WhichList) → n ≡ list_code l → is_handler n ≡ in_error l
   unfolding list_code in_error
-  in-handler the_body e = ap (λ (k : ℕ). eqb k handler_list) e
-  in-handler the_handler e = ap (λ (k : ℕ). eqb k handler_list) e
-  in-handler the_undo e = ap (λ (k : ℕ). eqb k handler_list) e
+  in-handler the_body e = ap is_handler e
+  in-handler the_handler e = ap is_handler e
+  in-handler the_undo e = ap is_handler e
 
-  pub in-undo : (l : WhichList) → n ≡ list_code l → eqb n undo_list ≡ in_undo l
+  pub in-undo : (l : checks.WhichList) → n ≡ list_code l → is_undo n ≡ in_undo l
   unfolding list_code in_undo
-  in-undo the_body e = ap (λ (k : ℕ). eqb k undo_list) e
-  in-undo the_handler e = ap (λ (k : ℕ). eqb k undo_list) e
-  in-undo the_undo e = ap (λ (k : ℕ). eqb k undo_list) e
+  in-undo the_body e = ap is_undo e
+  in-undo the_handler e = ap is_undo e
+  in-undo the_undo e = ap is_undo e
 
   -- in neither of them
-  pub in-body : (l : WhichList) → n ≡ list_code l → eqb n body_list ≡ not (in_undo l || in_error l)
+  pub in-body : (l : checks.WhichList) → n ≡ list_code l → is_body n ≡ not (in_undo l || in_error l)
   unfolding list_code in_undo in_error
-  in-body the_body e = ap (λ (k : ℕ). eqb k body_list) e
-  in-body the_handler e = ap (λ (k : ℕ). eqb k body_list) e
-  in-body the_undo e = ap (λ (k : ℕ). eqb k body_list) e
+  in-body the_body e = ap is_body e
+  in-body the_handler e = ap is_body e
+  in-body the_undo e = ap is_body e

@@ -1,11 +1,11 @@
 -- What is known where statements are checked: the routine's words and names, the routines that can be called, and the text.
-use Rattle.std.specs.Prelude.{◌≡◌, List, ℕ, ◌+◌, ◌<◌, ◌≤◌, length, take, drop}
-use Rattle.std.proofs.Math.Option.{Option, none}
+use Rattle.std.specs.Prelude.{◌≡◌, List, ℕ, ◌+◌, ◌<◌, ◌≤◌, length, take, drop, Option}
+use Rattle.std.proofs.Math.Option as math
 use Rattle.paper.specs.Sorts.{STRING}
 use Rattle.paper.specs.Words.{Word}
 use Rattle.paper.specs.Terms.{Memory}
 use Rattle.paper.specs.Names.{DataType, the_routine, nth, sort_in, spelled, meaning}
-use Rattle.paper.specs.Checks.{WhichList, the_body, the_handler, the_undo, is_some}
+use Rattle.paper.specs.Checks.{the_body, the_handler, the_undo, is_some}
 use Rattle.paper.specs.Checks as checks
 use Rattle.store_cells.specs.Cells.{cells_of}
 use Rattle.code.specs.Cells.{head_at, value_at, place_at}
@@ -15,9 +15,12 @@ use Rattle.check_names.specs.Numbers.{IsName}
 use Rattle.check_names.specs.Promises.{store_bytes}
 use Rattle.check_expressions.specs.Known.{Loaded, Known}
 use Rattle.check_expressions.specs.Owned.{Owns}
-use Rattle.layout.specs.Types.{no_type, type_in}
+use Rattle.layout.specs.Types.{given_back}
+use Rattle.layout.specs.declared.types.ValueType.{ValueType}
 use Rattle.check_links.specs.Raw.{Ground}
 use Rattle.check_around.specs.declared.Setting.{Setting}
+use Rattle.check_around.specs.declared.lists.WhichList.{WhichList}
+use Rattle.check_around.specs.declared.lists.WhichList.TheVariants.{Body, Handler, Undo}
 
 -- ---- the text
 -- A string, quotes included, is part of the text: at most 80 characters, each of them two bytes at most.
@@ -76,25 +79,15 @@ pub record Calls {text values : List ℕ} (a : Around text values) (code : List 
   pub room : store_bytes ≤ length code
 
 -- ---- the setting
--- a type by its number, and no type by no_type
-pub record ResultIs (o : Option DataType) (result : ℕ) : Type 0 where
-  pub is : o ≡ type_in result
-  pub plain : o ≡ none → result ≡ no_type
+-- what the paper's routine gives back is what the code says of it
+pub record ResultIs (o : math.Option DataType) (result : Option ValueType) : Type 0 where
+  pub is : o ≡ given_back result
 
--- a list by its number
-abbrev pub body_list : ℕ
-body_list = 0
-
-abbrev pub handler_list : ℕ
-handler_list = 1
-
-abbrev pub undo_list : ℕ
-undo_list = 2
-
-unfoldable pub list_code : WhichList → ℕ
-list_code the_body = body_list
-list_code the_handler = handler_list
-list_code the_undo = undo_list
+-- a list as the code names it
+unfoldable pub list_code : checks.WhichList → WhichList
+list_code the_body = Body
+list_code the_handler = Handler
+list_code the_undo = Undo
 
 pub record Tells (k : Setting) (K : checks.Setting) : Type 0 where
   pub result : ResultIs K.result k.result

@@ -1,8 +1,8 @@
 -- What the check of an expression says of the expression of a statement.
 use mathlib.Core.Path.{◌≡◌, sym, subst}
-use mathlib.Core.Bool.{Bool, false}
+use mathlib.Core.Bool.{false}
 use mathlib.Core.List.{List, [], ◌++◌}
-use Prim.Native.Nat.{ℕ, suc, ◌+◌, ◌-◌, ◌<◌, ◌≤◌}
+use Prim.Native.Nat.{ℕ, suc, ◌<◌, ◌≤◌}
 use native.Mathlib.Omega.{arith}
 use lib.ListN.{length}
 use Rattle.store_cells.specs.Cells.{cells_of}
@@ -12,8 +12,10 @@ use Rattle.paper.specs.Expressions.{nestings, level_of}
 use Rattle.paper.specs.Names.{sort_in}
 use Rattle.paper.specs.Types.{Fault, of_type, term_of}
 use Rattle.grammar.specs.Form.{Parses, ExprAt}
-use Rattle.check_expressions.specs.declared.Judged.{Judged}
-use Rattle.check_expressions.specs.declared.Judged.TheVariants.{Typed, Faulty}
+use Rattle.check_expressions.specs.Judgements.{Judged}
+use Rattle.std.specs.Prelude.{Ok, Err}
+use Rattle.layout.specs.Broken.{as_fault}
+use Rattle.layout.specs.declared.rules.Breach.{Breach}
 use Rattle.check_expressions.specs.Known.{Loaded}
 use Rattle.store_writing.specs.Promises.{Kept}
 use Rattle.check_expressions.specs.Answers.{Sound, Judges, Stands, OfType}
@@ -29,7 +31,7 @@ use Rattle.code.specs.Steps.{a_target}
 use Rattle.check_links.proofs.Ops.{low-still}
 use Rattle.layout.specs.Types.{type_in}
 use Rattle.paper.specs.Names.{DataType}
-use mathlib.Core.Option.{some}
+use Rattle.layout.specs.declared.types.ValueType.{ValueType}
 
 -- the faults of two pieces, one after the other
 pub inside_both : {a b c d : ℕ} {xs ys : List Fault} → Inside a b xs → Inside c d ys → a ≤ c → b ≤ d → Inside a d (xs ++ ys)
@@ -58,21 +60,21 @@ module _ (text code values : List ℕ) (g : Around text values) (k : Setting) (u
     loaded = loaded;
   }
 
-  module _ (after : List ℕ) (wants : ℕ) (t : DataType) (w : type_in wants ≡ some t) (r : Judged) (c : OfType code values after false wants a r) where
+  module _ (after : List ℕ) (wants : ValueType) (t : DataType) (w : type_in wants ≡ t) (r : Judged) (c : OfType code values after false wants a r) where
     judges : Judges g.known.m g.known.n code after a z (record { type = t; faults = of_type g.known.W t g.known.S e; term = term_of g.known.W g.known.S e }) r
     unfolding expression-stands of_type term_of
     judges = c.is expression-stands t w
 
     -- what is found is the first fault
-    pub judged-faulty : (number word : ℕ) → r ≡ Faulty number word → First (record { number = number; at = word }) (of_type g.known.W t g.known.S e)
-    judged-faulty number word q =
-        let f = says-faulty _ _ _ _ _ _ r number word q judges.says in
-        of-type-first g.known.W (suc nestings) a e z is (record { number = number; at = word }) f.others t g.known.S f.faults-are
+    pub judged-faulty : (broken : Breach) → r ≡ Err broken → First (as_fault broken) (of_type g.known.W t g.known.S e)
+    judged-faulty broken q =
+        let f = says-faulty _ _ _ _ _ _ r broken q judges.says in
+        of-type-first g.known.W (suc nestings) a e z is (as_fault broken) f.others t g.known.S f.faults-are
 
     pub judged-long : length after ≡ length code
     judged-long = judges.kept.long
 
-    module _ (bool : ℕ) (next : ℕ) (q : r ≡ Typed bool next) where
+    module _ (bool : ValueType) (next : ℕ) (q : r ≡ Ok (bool, next)) where
       sound : Sound g.known.m g.known.n (cells_of after) a z (record { type = t; faults = of_type g.known.W t g.known.S e; term = term_of g.known.W g.known.S e }) bool next
       sound = says_typed _ _ _ _ _ _ r bool next q judges.says
 

@@ -4,8 +4,8 @@ use Rattle.layout.specs.Parts.{link_part}
 use mathlib.Core.Path.{◌≡◌, refl, sym, ap, subst, ◌∙◌}
 use mathlib.Core.Bool.{Bool, true, false}
 use mathlib.Core.List.{List, [], ◌++◌, map}
-use mathlib.Core.Option.{Option, none}
-use Prim.Native.Nat.{ℕ, ◌+◌, ◌-◌, ◌*◌, ◌<◌, ◌≤◌}
+use mathlib.Core.Option.{Option}
+use Prim.Native.Nat.{ℕ, ◌+◌, ◌*◌, ◌<◌, ◌≤◌}
 use native.Mathlib.Omega.{arith}
 use lib.Dec.{ltb}
 use lib.ListN.{length, get_or}
@@ -16,7 +16,7 @@ use Rattle.paper.specs.Sorts.{STEP}
 use Rattle.paper.specs.Trees.{Expr}
 use Rattle.paper.specs.Expressions.{level_of}
 use Rattle.paper.specs.Names.{a_num, Text, text_of, Scopes, is_among, cannot_declare, hides_own, sort_in, spelled}
-use Rattle.paper.specs.Types.{Fault, fault_if, of_type}
+use Rattle.paper.specs.Types.{Fault, of_type}
 use Rattle.paper.specs.Declarations.{routine_word_limit, crosses}
 use Rattle.paper.specs.Checks.{optional_num}
 use Rattle.code.specs.Cells.{op_in, op_at, value_at, link_at}
@@ -27,8 +27,10 @@ use Rattle.check_sites.specs.Parts.{Taken}
 use Rattle.grammar.specs.Form.{Parses, ExprAt, ForHeadAt}
 use Rattle.grammar.proofs.Inversions.{Given, step-none, step-some}
 use Rattle.grammar.proofs.Places.{step-grows}
-use Rattle.check_expressions.specs.declared.Judged.{Judged}
-use Rattle.check_expressions.specs.declared.Judged.TheVariants.{Typed, Faulty}
+use Rattle.check_expressions.specs.Judgements.{Judged}
+use Rattle.std.specs.Prelude.{Ok, Err}
+use Rattle.layout.specs.declared.rules.Breach.{Breach}
+use Rattle.layout.specs.declared.rules.Rule.TheVariants.{TakenName, HidingLoop, TooMany}
 use Rattle.store_writing.specs.Promises.{Kept, Linked}
 use Rattle.check_expressions.specs.Answers.{OfType}
 use Rattle.check_expressions.specs.Answers as expressions
@@ -40,9 +42,9 @@ use Rattle.faults.proofs.Statements.{step-inside}
 use Rattle.check_links.specs.Resolved.{is_led, goes_by_link, goes_by_value, goes_by_place}
 use Rattle.check_links.specs.Raw.{RawBound, RawStep}
 use Rattle.check_around.specs.Around.{Around, ground_of}
-use Rattle.check_around.specs.Answers.{Fine, Tell, Answer}
+use Rattle.check_around.specs.Answers.{Stepped, Fine, Tell, Answer}
 use Rattle.check_compounds.specs.Here.{Here}
-use Rattle.check_compounds.specs.Parts.{Bounds, BoundWritten, Bounded, Steps, Stepped, ForHeads, name_faults, NameMay, ForNamed, ForMay, ForHeaded}
+use Rattle.check_compounds.specs.Parts.{Bounds, BoundWritten, Bounded, Steps, ForStepped, ForHeads, name_faults, NameMay, ForNamed, ForMay, ForHeaded}
 use Rattle.check_compounds.proofs.Frames.{kept-outside, same-before, same-behind, same-on, head-before, here_on, here-part, term-same, bound-same, linked-outside}
 use Rattle.check_compounds.proofs.ExpressionsJudged.{inside_both, expression-stands, judged-faulty, judged-long, judged-none, judged-next, judged-term, judged-kept}
 use Rattle.check_compounds.proofs.AnswerShapes.{typed-fine, faulty-found}
@@ -50,8 +52,8 @@ use Rattle.check_compounds.proofs.AnswerShapes.{fine-answer, found-answer, found
 use Rattle.code.specs.Steps.{a_target, a_step}
 use Rattle.layout.specs.Rules.{taken_name, hiding_loop, too_many}
 use Rattle.check_links.proofs.Ops.{low-still}
-use Rattle.layout.specs.Types.{no_type, num_type}
-use Rattle.layout.proofs.Typing.{num-in}
+use Rattle.layout.specs.declared.types.ValueType.{ValueType}
+use Rattle.layout.specs.declared.types.ValueType.TheVariants.{Num}
 
 -- ---- a bound behind the word i
 module _ (code values : List ℕ) (i : ℕ) (g : Bounds code values i) where
@@ -67,49 +69,49 @@ module _ (code values : List ℕ) (i : ℕ) (g : Bounds code values i) where
   pub bound-room : (i < word_limit) × (i * 8 + 8 ≤ length code)
   bound-room = (omega (arith, forward, g.inside, g.here.unread.loaded.last), omega (arith, forward, g.inside, g.here.unread.loaded.room))
 
-  abbrev ForBound : (after : List ℕ) → Judged → Type 0
+  abbrev ForBound : (after : List ℕ) → Stepped → Type 0
   ForBound after r = Answer (of_type a.known.W a_num a.known.S g.e) code after i g.z (BoundWritten (RawBound (ground_of a) a.known.n (cells_of after) a.known.S g.e i g.z) code after i) r
 
-  module _ (one : List ℕ) (j : Judged) (c : OfType code values one false num_type (i + 1) j) where
-    bound-no : (number word : ℕ) → j ≡ Faulty number word → ForBound one j
-    bound-no number word q =
-        found_as _ _ _ _ _ _ j number word q
-        (judged-faulty g.text code values a g.k g.used (i + 1) g.to g.here g.e (i + 1) g.z g.is g.ends (omega arith) g.inside one num_type a_num num-in j c number word q)
-        (judged-long g.text code values a g.k g.used (i + 1) g.to g.here g.e (i + 1) g.z g.is g.ends (omega arith) g.inside one num_type a_num num-in j c)
+  module _ (one : List ℕ) (j : Judged) (c : OfType code values one false Num (i + 1) j) where
+    bound-no : (broken : Breach) → j ≡ Err broken → ForBound one (Err broken)
+    bound-no broken q =
+        found-answer _ _ _ _ _ _ broken
+        (judged-faulty g.text code values a g.k g.used (i + 1) g.to g.here g.e (i + 1) g.z g.is g.ends (omega arith) g.inside one Num a_num refl j c broken q)
+        (judged-long g.text code values a g.k g.used (i + 1) g.to g.here g.e (i + 1) g.z g.is g.ends (omega arith) g.inside one Num a_num refl j c)
 
-    module _ (bool : ℕ) (n : ℕ) (q : j ≡ Typed bool n) where
+    module _ (bool : ValueType) (n : ℕ) (q : j ≡ Ok (bool, n)) where
       at-is : n ≡ g.z
-      at-is = judged-next g.text code values a g.k g.used (i + 1) g.to g.here g.e (i + 1) g.z g.is g.ends (omega arith) g.inside one num_type a_num num-in j c bool n q
+      at-is = judged-next g.text code values a g.k g.used (i + 1) g.to g.here g.e (i + 1) g.z g.is g.ends (omega arith) g.inside one Num a_num refl j c bool n q
 
       kept : Kept code one (i + 1) g.z
-      kept = judged-kept g.text code values a g.k g.used (i + 1) g.to g.here g.e (i + 1) g.z g.is g.ends (omega arith) g.inside one num_type a_num num-in j c bool n q
+      kept = judged-kept g.text code values a g.k g.used (i + 1) g.to g.here g.e (i + 1) g.z g.is g.ends (omega arith) g.inside one Num a_num refl j c bool n q
 
       pub bound-links : (i * 8 + 8 ≤ length one) × (n < link_part)
       bound-links = (omega (arith, bound-room, kept.long), omega (arith, at-is, g.inside, g.here.unread.loaded.last))
 
-      bound-yes : (two : List ℕ) → Linked one two i (op_at (cells_of one) i) (value_at (cells_of one) i) n → ForBound two (Typed bool n)
+      bound-yes : (two : List ℕ) → Linked one two i (op_at (cells_of one) i) (value_at (cells_of one) i) n → ForBound two (Ok n)
       bound-yes two l =
           let op-is : op_at (cells_of two) i ≡ op_at (cells_of code) i = l.op-is ∙ ap op_in (head-before (kept-outside kept) i (omega arith)) in
-          fine-answer _ _ _ _ _ _ bool n (record {
-            none = judged-none g.text code values a g.k g.used (i + 1) g.to g.here g.e (i + 1) g.z g.is g.ends (omega arith) g.inside one num_type a_num num-in j c bool n q;
+          fine-answer _ _ _ _ _ _ n (record {
+            none = judged-none g.text code values a g.k g.used (i + 1) g.to g.here g.e (i + 1) g.z g.is g.ends (omega arith) g.inside one Num a_num refl j c bool n q;
             next-is = at-is;
             written = record {
               is = record {
                 link = l.link-is ∙ at-is;
                 still = ap is_led op-is ∙ g.still;
                 term = term-same (ground_of a) a.known.n (cells_of one) (cells_of two) a.known.S g.e (i + 1) g.z (same-behind (i + 1) g.z (linked-outside l) (omega arith))
-                    (judged-term g.text code values a g.k g.used (i + 1) g.to g.here g.e (i + 1) g.z g.is g.ends (omega arith) g.inside one num_type a_num num-in j c bool n q);
+                    (judged-term g.text code values a g.k g.used (i + 1) g.to g.here g.e (i + 1) g.z g.is g.ends (omega arith) g.inside one Num a_num refl j c bool n q);
               };
               op = op-is;
             };
             kept = kept_on (kept-wider kept i g.z (omega arith) (omega arith)) (kept-wider l.kept i g.z (omega arith) (omega (arith, forward)));
           })
 
-module _ (code values : List ℕ) (i : ℕ) (one : List ℕ) (j : Judged) (c : OfType code values one false num_type (i + 1) j) where
-  pub bound-wrong : (number word : ℕ) → j ≡ Faulty number word → Bounded code values one i j
-  bound-wrong number word q = record { is = λ g. bound-no code values i g one j c number word q }
+module _ (code values : List ℕ) (i : ℕ) (one : List ℕ) (j : Judged) (c : OfType code values one false Num (i + 1) j) where
+  pub bound-wrong : (broken : Breach) → j ≡ Err broken → Bounded code values one i (Err broken)
+  bound-wrong broken q = record { is = λ g. bound-no code values i g one j c broken q }
 
-  pub bound-right : (bool : ℕ) (n : ℕ) → j ≡ Typed bool n → (two : List ℕ) → Linked one two i (op_at (cells_of one) i) (value_at (cells_of one) i) n → Bounded code values two i (Typed bool n)
+  pub bound-right : (bool : ValueType) (n : ℕ) → j ≡ Ok (bool, n) → (two : List ℕ) → Linked one two i (op_at (cells_of one) i) (value_at (cells_of one) i) n → Bounded code values two i (Ok n)
   bound-right bool n q two l = record { is = λ g. bound-yes code values i g one j c bool n q two l }
 
 -- ---- STEP
@@ -127,18 +129,18 @@ module _ (code values : List ℕ) (s : ℕ) (g : Steps code values s) where
   pub step_room : (s < word_limit) × (s * 8 + 8 ≤ length code)
   step_room = (omega (arith, order, g.inside, g.here.unread.loaded.last), omega (arith, order, g.inside, g.here.unread.loaded.room))
 
-  abbrev ForStep : (after : List ℕ) → Judged → Type 0
+  abbrev ForStep : (after : List ℕ) → Stepped → Type 0
   ForStep after r = Answer (optional_num b.known.W b.known.S g.c) code after s g.d (RawStep (ground_of b) b.known.n (cells_of after) b.known.S g.c s g.d) r
 
   module _ (v : ℕ) (ev : v ≡ op_at (cells_of code) s) where
     sort-is : sort_in b.known.W s ≡ v
     sort-is = sym (ev ∙ (g.here.unread.loaded.words s (omega arith) (omega (arith, order, g.inside))).sort)
 
-    step-no : (v ≡ STEP → ⊥) → ForStep code (Typed no_type s)
+    step-no : (v ≡ STEP → ⊥) → ForStep code (Ok s)
     unfolding optional_num RawStep
     step-no f =
         let q = step-none (sort_in b.known.W) (Parses (sort_in b.known.W)) g.is (λ e. f (sym sort-is ∙ e)) in
-        fine-answer _ _ _ _ _ _ no_type s (record {
+        fine-answer _ _ _ _ _ _ s (record {
           none = ap (optional_num b.known.W b.known.S) q.0;
           next-is = sym q.1;
           written = subst (λ (o : Option Expr). RawStep (ground_of b) b.known.n (cells_of code) b.known.S o s g.d) (sym q.0) (sym q.1);
@@ -169,23 +171,23 @@ module _ (code values : List ℕ) (s : ℕ) (g : Steps code values s) where
         inside = g.inside;
       }
 
-      step-yes : (two : List ℕ) (j : Judged) → Bounded one values two s j → ForStep two j
+      step-yes : (two : List ℕ) (j : Stepped) → Bounded one values two s j → ForStep two j
       unfolding step-bounds optional_num RawStep Tell
       step-yes two j x = subst (λ (o : Option Expr). Answer (optional_num b.known.W b.known.S o) code two s g.d (RawStep (ground_of b) b.known.n (cells_of two) b.known.S o s g.d) j) (sym w.is) (by_answer j (x.is step-bounds))
         where
-          by_answer : (r : Judged) → Answer (of_type b.known.W a_num b.known.S w.e) one two s g.d (BoundWritten (RawBound (ground_of b) b.known.n (cells_of two) b.known.S w.e s g.d) one two s) r
+          by_answer : (r : Stepped) → Answer (of_type b.known.W a_num b.known.S w.e) one two s g.d (BoundWritten (RawBound (ground_of b) b.known.n (cells_of two) b.known.S w.e s g.d) one two s) r
               → Answer (of_type b.known.W a_num b.known.S w.e) code two s g.d ((op_at (cells_of two) s ≡ a_step) × RawBound (ground_of b) b.known.n (cells_of two) b.known.S w.e s g.d) r
-          by_answer (Typed bool next) y =
+          by_answer (Ok next) y =
               let f = y.tells in
-              fine-answer _ _ _ _ _ _ bool next
+              fine-answer _ _ _ _ _ _ next
               (record { none = f.none; next-is = f.next-is; written = (f.written.op ∙ l.op-is, f.written.is); kept = kept_on (kept-wider l.kept s g.d (omega arith) (omega (arith, longer))) f.kept })
-          by_answer (Faulty number word) y = record { tells = y.tells; long = y.long ∙ l.kept.long }
+          by_answer (Err broken) y = record { tells = y.tells; long = y.long ∙ l.kept.long }
 
 module _ (code values : List ℕ) (s v : ℕ) (ev : v ≡ op_at (cells_of code) s) where
-  pub no_step : (v ≡ STEP → ⊥) → Stepped code values code s (Typed no_type s)
+  pub no_step : (v ≡ STEP → ⊥) → ForStepped code values code s (Ok s)
   no_step f = record { is = λ g. step-no code values s g v ev f }
 
-  pub a-step : v ≡ STEP → (one : List ℕ) → Linked code one s a_step 0 (link_at (cells_of code) s) → (two : List ℕ) (j : Judged) → Bounded one values two s j → Stepped code values two s j
+  pub a-step : v ≡ STEP → (one : List ℕ) → Linked code one s a_step 0 (link_at (cells_of code) s) → (two : List ℕ) (j : Stepped) → Bounded one values two s j → ForStepped code values two s j
   a-step h one l two j x = record { is = λ g. step-yes code values s g v ev h one l two j x }
 
 -- ---- the name
@@ -252,7 +254,7 @@ module _ (code values : List ℕ) (used i : ℕ) (g : ForHeads code values used 
       and inside-if _ hiding_loop (i + 1) (i + 1) (i + 2) (omega arith) (omega arith)
       and inside-if _ too_many (i + 1) (i + 1) (i + 2) (omega arith) (omega arith)
 
-  abbrev ForHead : (after : List ℕ) → Judged → Type 0
+  abbrev ForHead : (after : List ℕ) → Stepped → Type 0
   ForHead after r =
       Answer
       (at_name ++ lower-faults ++ upper-faults ++ step-faults)
@@ -275,16 +277,16 @@ module _ (code values : List ℕ) (used i : ℕ) (g : ForHeads code values used 
   numbered : number_at (cells_of code) (i + 1) ≡ number_of e.known.W (i + 1)
   numbered = (g.here.unread.loaded.words (i + 1) (omega arith) (omega (arith, orders, last))).number x.name
 
-  abbrev ForName : Judged → Type 0
+  abbrev ForName : Stepped → Type 0
   ForName r = Answer at_name code code (i + 1) (i + 2) (NameMay e.known.W e.known.S used i) r
 
   module _ (m : ℕ) (b : Bool) (em : Meant code values (i + 1) m) (eb : Protects m b) where
     guarded : is_protected (spelled e.known.W (i + 1)) ≡ b
     guarded = sym (e.known.means.guards (i + 1) x.name) ∙ ap protects_cell (sym (em ∙ ap (λ (v : ℕ). get_or (cells_of values) (first_meaning + v) 0) numbered)) ∙ sym eb
 
-    taken : b ≡ true → ForName (Faulty taken_name (i + 1))
+    taken : b ≡ true → ForName (Err (record { rule = TakenName; word = i + 1 }))
     taken t =
-        found-answer _ _ _ _ _ _ taken_name (i + 1)
+        found-answer _ _ _ _ _ _ (record { rule = TakenName; word = i + 1 })
         (first-of-three _ _ _ taken_name hiding_loop too_many (i + 1) ranks-before (ranks taken_name too_many (omega arith) (omega arith)) (only-protected _ ∙ guarded ∙ t)) refl
 
     module _ (f : b ≡ false) (t : Bool) (et : Taken code values 1 (i + 1) t) where
@@ -297,34 +299,34 @@ module _ (code values : List ℕ) (used i : ℕ) (g : ForHeads code values used 
           sym (own-only e.known.S (spelled e.known.W (i + 1)) (guarded ∙ f))
           ∙ sym (et.is e.known.routine e.known.W e.known.S e.known.S.own e.known.means x.name numbered e.owns)
 
-      hiding : t ≡ true → ForName (Faulty hiding_loop (i + 1))
+      hiding : t ≡ true → ForName (Err (record { rule = HidingLoop; word = i + 1 }))
       hiding q =
-          found-answer _ _ _ _ _ _ hiding_loop (i + 1) (second-of-three _ _ _ taken_name hiding_loop too_many (i + 1) (ranks-behind too_many (omega arith) (omega arith)) free (told ∙ q)) refl
+          found-answer _ _ _ _ _ _ (record { rule = HidingLoop; word = i + 1 }) (second-of-three _ _ _ taken_name hiding_loop too_many (i + 1) (ranks-behind too_many (omega arith) (omega arith)) free (told ∙ q)) refl
 
       module _ (nt : t ≡ false) where
-        full : used ≡ 64 → ForName (Faulty too_many (i + 1))
-        full u = found-answer _ _ _ _ _ _ too_many (i + 1) (third-of-three _ _ _ taken_name hiding_loop too_many (i + 1) free (told ∙ nt) (crosses-full used u)) refl
+        full : used ≡ 64 → ForName (Err (record { rule = TooMany; word = i + 1 }))
+        full u = found-answer _ _ _ _ _ _ (record { rule = TooMany; word = i + 1 }) (third-of-three _ _ _ taken_name hiding_loop too_many (i + 1) free (told ∙ nt) (crosses-full used u)) refl
 
-        named : (used ≡ 64 → ⊥) → ForName (Typed no_type (i + 2))
+        named : (used ≡ 64 → ⊥) → ForName (Ok (i + 2))
         named u =
             let spare : used < 64 = omega (arith, u, g.here.few) in
-            fine-answer _ _ _ _ _ _ no_type (i + 2) (record {
+            fine-answer _ _ _ _ _ _ (i + 2) (record {
               none = none-of-three _ _ _ taken_name hiding_loop too_many (i + 1) free (told ∙ nt) (crosses-none used spare);
               next-is = refl;
               written = record { free = guarded ∙ f; hides-none = told ∙ nt; spare = spare };
               kept = kept_same code (i + 1) (i + 2);
             })
 
-  module _ (j0 : Judged) (b0 : ForNamed code values used i j0) where
+  module _ (j0 : Stepped) (b0 : ForNamed code values used i j0) where
     a0 : ForName j0
     a0 = b0.is g
 
-    name-wrong : (number word : ℕ) → j0 ≡ Faulty number word → ForHead code j0
-    name-wrong number word q = found_as _ _ _ _ _ _ j0 number word q (after-name _ (faulty-found j0 a0 number word q)) refl
+    name-wrong : (broken : Breach) → j0 ≡ Err broken → ForHead code j0
+    name-wrong broken q = found_as _ _ _ _ _ _ j0 broken q (after-name _ (faulty-found j0 a0 broken q)) refl
 
-    module _ (bool0 : ℕ) (from : ℕ) (q0 : j0 ≡ Typed bool0 from) where
+    module _ (from : ℕ) (q0 : j0 ≡ Ok from) where
       f0 : Fine at_name code code (i + 1) (i + 2) from (NameMay e.known.W e.known.S used i)
-      f0 = typed-fine j0 a0 bool0 from q0
+      f0 = typed-fine j0 a0 from q0
 
       no_name : at_name ≡ []
       no_name = f0.none
@@ -359,17 +361,17 @@ module _ (code values : List ℕ) (used i : ℕ) (g : ForHeads code values used 
           let j2 = inside_both j1 upper_in (omega (arith, orders)) (omega (arith, orders)) in
           first-before (first-before h j1 upper_in (omega arith)) j2 step-in (omega arith)
 
-      module _ (one : List ℕ) (j : Judged) (b1 : Bounded code values one from j) where
+      module _ (one : List ℕ) (j : Stepped) (b1 : Bounded code values one from j) where
         a1 : Answer lower-faults code one (i + 2) x.to_at (BoundWritten (RawBound (ground_of e) e.known.n (cells_of one) e.known.S g.a (i + 2) x.to_at) code one (i + 2)) j
         unfolding lowers
         a1 = (subst (λ (v : ℕ). Bounded code values one v j) f0.next-is b1).is lowers
 
-        lower-wrong : (number word : ℕ) → j ≡ Faulty number word → ForHead one j
-        lower-wrong number word q = found_as _ _ _ _ _ _ j number word q (with-lower _ (first-after no_name (faulty-found j a1 number word q))) a1.long
+        lower-wrong : (broken : Breach) → j ≡ Err broken → ForHead one j
+        lower-wrong broken q = found_as _ _ _ _ _ _ j broken q (with-lower _ (first-after no_name (faulty-found j a1 broken q))) a1.long
 
-        module _ (bool : ℕ) (to : ℕ) (q : j ≡ Typed bool to) where
+        module _ (to : ℕ) (q : j ≡ Ok to) where
           f1 : Fine lower-faults code one (i + 2) x.to_at to (BoundWritten (RawBound (ground_of e) e.known.n (cells_of one) e.known.S g.a (i + 2) x.to_at) code one (i + 2))
-          f1 = typed-fine j a1 bool to q
+          f1 = typed-fine j a1 to q
 
           no_lower : at_name ++ lower-faults ≡ []
           no_lower = nothing-in-both no_name f1.none
@@ -408,17 +410,17 @@ module _ (code values : List ℕ) (used i : ℕ) (g : ForHeads code values used 
               let j2 = inside_both j1 upper_in (omega (arith, orders)) (omega (arith, orders)) in
               first-before h j2 step-in (omega arith)
 
-          module _ (two : List ℕ) (j2 : Judged) (b2 : Bounded one values two to j2) where
+          module _ (two : List ℕ) (j2 : Stepped) (b2 : Bounded one values two to j2) where
             a2 : Answer upper-faults one two x.to_at x.step_at (BoundWritten (RawBound (ground_of e) e.known.n (cells_of two) e.known.S g.b x.to_at x.step_at) one two x.to_at) j2
             unfolding uppers
             a2 = (subst (λ (v : ℕ). Bounded one values two v j2) f1.next-is b2).is uppers
 
-            upper-wrong : (number word : ℕ) → j2 ≡ Faulty number word → ForHead two j2
-            upper-wrong number word q2 = found_as _ _ _ _ _ _ j2 number word q2 (with-upper _ (first-after no_lower (faulty-found j2 a2 number word q2))) (a2.long ∙ a1.long)
+            upper-wrong : (broken : Breach) → j2 ≡ Err broken → ForHead two j2
+            upper-wrong broken q2 = found_as _ _ _ _ _ _ j2 broken q2 (with-upper _ (first-after no_lower (faulty-found j2 a2 broken q2))) (a2.long ∙ a1.long)
 
-            module _ (bool2 : ℕ) (s : ℕ) (q2 : j2 ≡ Typed bool2 s) where
+            module _ (s : ℕ) (q2 : j2 ≡ Ok s) where
               f2 : Fine upper-faults one two x.to_at x.step_at s (BoundWritten (RawBound (ground_of e) e.known.n (cells_of two) e.known.S g.b x.to_at x.step_at) one two x.to_at)
-              f2 = typed-fine j2 a2 bool2 s q2
+              f2 = typed-fine j2 a2 s q2
 
               no-upper : at_name ++ lower-faults ++ upper-faults ≡ []
               no-upper = nothing-in-both no_lower f2.none
@@ -441,16 +443,16 @@ module _ (code values : List ℕ) (used i : ℕ) (g : ForHeads code values used 
               pub head-steps : Steps two values s
               head-steps = subst (λ (v : ℕ). Steps two values v) (sym f2.next-is) steps
 
-              head_done : (three : List ℕ) (j3 : Judged) → Stepped two values three s j3 → ForHead three j3
+              head_done : (three : List ℕ) (j3 : Stepped) → ForStepped two values three s j3 → ForHead three j3
               unfolding steps Tell ground_of
-              head_done three j3 b3 = by_answer j3 ((subst (λ (v : ℕ). Stepped two values three v j3) f2.next-is b3).is steps)
+              head_done three j3 b3 = by_answer j3 ((subst (λ (v : ℕ). ForStepped two values three v j3) f2.next-is b3).is steps)
                 where
-                  by_answer : (r : Judged) → Answer step-faults two three x.step_at g.do_at (RawStep (ground_of e) e.known.n (cells_of three) e.known.S g.c x.step_at g.do_at) r → ForHead three r
-                  by_answer (Typed bool3 next) y =
+                  by_answer : (r : Stepped) → Answer step-faults two three x.step_at g.do_at (RawStep (ground_of e) e.known.n (cells_of three) e.known.S g.c x.step_at g.do_at) r → ForHead three r
+                  by_answer (Ok next) y =
                       let f3 = y.tells in
                       let o2 = kept-outside f2.kept in
                       let o3 = kept-outside f3.kept in
-                      fine-answer _ _ _ _ _ _ bool3 next (record {
+                      fine-answer _ _ _ _ _ _ next (record {
                         none = nothing-in-both no-upper f3.none;
                         next-is = f3.next-is;
                         written = record {
@@ -466,34 +468,34 @@ module _ (code values : List ℕ) (used i : ℕ) (g : ForHeads code values used 
                         kept = kept_on (kept_on (kept-wider f1.kept (i + 2) g.do_at (omega arith) (omega (arith, orders))) (kept-wider f2.kept (i + 2) g.do_at (omega (arith, orders)) (omega (arith, orders))))
                             (kept-wider f3.kept (i + 2) g.do_at (omega (arith, orders)) (omega arith));
                       })
-                  by_answer (Faulty number word) y = found-answer _ _ _ _ _ _ number word (first-after no-upper y.tells) (y.long ∙ a2.long ∙ a1.long)
+                  by_answer (Err broken) y = found-answer _ _ _ _ _ _ broken (first-after no-upper y.tells) (y.long ∙ a2.long ∙ a1.long)
 
 -- ---- for whatever the statement is
 module _ (code values : List ℕ) (used i : ℕ) (m : ℕ) (b : Bool) (em : Meant code values (i + 1) m) (eb : Protects m b) where
-  pub name-taken : b ≡ true → ForNamed code values used i (Faulty taken_name (i + 1))
+  pub name-taken : b ≡ true → ForNamed code values used i (Err (record { rule = TakenName; word = i + 1 }))
   name-taken t = record { is = λ g. taken code values used i g m b em eb t }
 
   module _ (f : b ≡ false) (t : Bool) (et : Taken code values 1 (i + 1) t) where
-    pub name-hiding : t ≡ true → ForNamed code values used i (Faulty hiding_loop (i + 1))
+    pub name-hiding : t ≡ true → ForNamed code values used i (Err (record { rule = HidingLoop; word = i + 1 }))
     name-hiding q = record { is = λ g. hiding code values used i g m b em eb f t et q }
 
-    pub name-full : t ≡ false → used ≡ 64 → ForNamed code values used i (Faulty too_many (i + 1))
+    pub name-full : t ≡ false → used ≡ 64 → ForNamed code values used i (Err (record { rule = TooMany; word = i + 1 }))
     name-full nt u = record { is = λ g. full code values used i g m b em eb f t et nt u }
 
-    pub name_free : t ≡ false → (used ≡ 64 → ⊥) → ForNamed code values used i (Typed no_type (i + 2))
+    pub name_free : t ≡ false → (used ≡ 64 → ⊥) → ForNamed code values used i (Ok (i + 2))
     name_free nt u = record { is = λ g. named code values used i g m b em eb f t et nt u }
 
-module _ (code values : List ℕ) (used i : ℕ) (j0 : Judged) (b0 : ForNamed code values used i j0) where
-  pub head-name-wrong : (number word : ℕ) → j0 ≡ Faulty number word → ForHeaded code values code used i j0
-  head-name-wrong number word q = record { is = λ g. name-wrong code values used i g j0 b0 number word q }
+module _ (code values : List ℕ) (used i : ℕ) (j0 : Stepped) (b0 : ForNamed code values used i j0) where
+  pub head-name-wrong : (broken : Breach) → j0 ≡ Err broken → ForHeaded code values code used i j0
+  head-name-wrong broken q = record { is = λ g. name-wrong code values used i g j0 b0 broken q }
 
-  module _ (bool0 : ℕ) (from : ℕ) (q0 : j0 ≡ Typed bool0 from) (one : List ℕ) (j : Judged) (b1 : Bounded code values one from j) where
-    pub head-lower-wrong : (number word : ℕ) → j ≡ Faulty number word → ForHeaded code values one used i j
-    head-lower-wrong number word q = record { is = λ g. lower-wrong code values used i g j0 b0 bool0 from q0 one j b1 number word q }
+  module _ (from : ℕ) (q0 : j0 ≡ Ok from) (one : List ℕ) (j : Stepped) (b1 : Bounded code values one from j) where
+    pub head-lower-wrong : (broken : Breach) → j ≡ Err broken → ForHeaded code values one used i j
+    head-lower-wrong broken q = record { is = λ g. lower-wrong code values used i g j0 b0 from q0 one j b1 broken q }
 
-    module _ (bool : ℕ) (to : ℕ) (q : j ≡ Typed bool to) (two : List ℕ) (j2 : Judged) (b2 : Bounded one values two to j2) where
-      pub head-upper-wrong : (number word : ℕ) → j2 ≡ Faulty number word → ForHeaded code values two used i j2
-      head-upper-wrong number word q2 = record { is = λ g. upper-wrong code values used i g j0 b0 bool0 from q0 one j b1 bool to q two j2 b2 number word q2 }
+    module _ (to : ℕ) (q : j ≡ Ok to) (two : List ℕ) (j2 : Stepped) (b2 : Bounded one values two to j2) where
+      pub head-upper-wrong : (broken : Breach) → j2 ≡ Err broken → ForHeaded code values two used i j2
+      head-upper-wrong broken q2 = record { is = λ g. upper-wrong code values used i g j0 b0 from q0 one j b1 to q two j2 b2 broken q2 }
 
-      pub head-finished : (bool2 : ℕ) (s : ℕ) → j2 ≡ Typed bool2 s → (three : List ℕ) (j3 : Judged) → Stepped two values three s j3 → ForHeaded code values three used i j3
-      head-finished bool2 s q2 three j3 b3 = record { is = λ g. head_done code values used i g j0 b0 bool0 from q0 one j b1 bool to q two j2 b2 bool2 s q2 three j3 b3 }
+      pub head-finished : (s : ℕ) → j2 ≡ Ok s → (three : List ℕ) (j3 : Stepped) → ForStepped two values three s j3 → ForHeaded code values three used i j3
+      head-finished s q2 three j3 b3 = record { is = λ g. head_done code values used i g j0 b0 from q0 one j b1 to q two j2 b2 s q2 three j3 b3 }

@@ -1,8 +1,7 @@
 -- The values of a CASE are worked out one by one.
 use mathlib.Core.Path.{◌≡◌, refl, sym, ap, subst, ◌∙◌}
-use mathlib.Core.Bool.{false}
 use mathlib.Core.List.{List, [], ◌∷◌, ◌++◌}
-use Prim.Native.Nat.{ℕ, suc, ◌+◌, ◌-◌, ◌*◌, ◌<◌, ◌≤◌}
+use Prim.Native.Nat.{ℕ, suc, ◌+◌, ◌*◌, ◌<◌, ◌≤◌}
 use native.Mathlib.Omega.{arith}
 use lib.ListN.{length}
 use lib.IntN.{ℤ, pos, ◌-ℤ◌}
@@ -23,12 +22,12 @@ use Rattle.code.specs.Steps.{constant_at, a_case, a_next_value}
 use Rattle.grammar.specs.Form.{Parses, ExprAt, ExprsAt, SeparatedAt}
 use Rattle.grammar.proofs.Inversions.{FirstOf, separated_first}
 use Rattle.grammar.proofs.Places.{separated-grows}
-use Rattle.check_expressions.specs.declared.Judged.{Judged}
-use Rattle.check_expressions.specs.declared.Judged.TheVariants as judged
+use Rattle.std.specs.Prelude.{Ok, Err}
+use Rattle.layout.specs.Broken.{as_fault}
+use Rattle.layout.specs.declared.rules.Breach.{Breach}
 use Rattle.store_writing.specs.Promises.{Kept, Linked}
 use Rattle.store_writing.proofs.Keeping.{kept_same, kept-wider, kept_on}
-use Rattle.check_constants.specs.declared.Valued.{Valued}
-use Rattle.check_constants.specs.declared.Valued.TheVariants as valued
+use Rattle.check_constants.specs.Sizing.{Valued}
 use Rattle.check_constants.specs.Answers.{HeldAs, InNum, Asks, Right, Says, Values}
 use Rattle.faults.specs.First.{First, Inside}
 use Rattle.faults.proofs.First.{widen, every-none, first-before, nothing-in-both}
@@ -40,9 +39,7 @@ use Rattle.check_compounds.specs.Here.{Outside, Here}
 use Rattle.check_compounds.specs.Parts.{Chain, CaseChain, CaseValues, CaseValued}
 use Rattle.check_compounds.proofs.Frames.{outside_wider, outside-on, kept-outside, same-before, here_on, op_same, value_same, link-same, linked-outside}
 use Rattle.check_compounds.proofs.AnswerShapes.{fine-answer, found-answer}
-use Rattle.layout.specs.Types.{no_type}
-use Rattle.layout.proofs.Typing.{num-in}
-use Rattle.layout.specs.Types.{num_type}
+use Rattle.layout.specs.declared.types.ValueType.TheVariants.{Num}
 
 -- the value at w and those behind it
 unfoldable pub From : (W : List Word) (S : Scopes) (M : Memory) (C : List ℕ) → List Expr → (n w : ℕ) → Type 0
@@ -150,7 +147,7 @@ module _ (code values : List ℕ) (c : ℕ) (now : List ℕ) (w op : ℕ) (inv :
     pub value-asks : Asks now values (w + 1)
     value-asks = asks
 
-    abbrev ForValues : (after : List ℕ) → Judged → Type 0
+    abbrev ForValues : (after : List ℕ) → answered.Stepped → Type 0
     ForValues after r =
         answered.Answer (case_faults a.known.W a.known.S a.M g.es) code after c g.n (CaseChain a.known.W a.known.S a.M (cells_of after) g.es g.n c) r
 
@@ -175,23 +172,23 @@ module _ (code values : List ℕ) (c : ℕ) (now : List ℕ) (w op : ℕ) (inv :
         (λ e. widen (case-inside a.known.W a.known.S a.M (f.more e)) (omega arith) (omega arith))
         (λ n. every-none (ap (case_faults a.known.W a.known.S a.M) (f.done n).0))
 
-    module _ (one : List ℕ) (r : Valued) (vs : Values now values one num_type (w + 1) r) where
+    module _ (one : List ℕ) (r : Valued) (vs : Values now values one Num (w + 1) r) where
       told : Says a.known.W a_num a.known.S a.M f.a f.n r
       unfolding asks
-      told = vs.says asks a_num num-in
+      told = vs.says asks a_num refl
 
       kept-one : Kept now one (w + 1) f.n
       unfolding asks
       kept-one = vs.kept asks
 
-      wrong : (number word : ℕ) → r ≡ valued.Faulty number word → ForValues one (judged.Faulty number word)
+      wrong : (broken : Breach) → r ≡ Err broken → ForValues one (Err broken)
       unfolding Says own-faults
-      wrong number word q =
-          found-answer _ _ _ _ _ _ number word
-          (subst (First (record { number = number; at = word })) (sym all-faults) (first-before (subst (Says a.known.W a_num a.known.S a.M f.a f.n) q told) own_in rest_in (omega arith)))
+      wrong broken q =
+          found-answer _ _ _ _ _ _ broken
+          (subst (First (as_fault broken)) (sym all-faults) (first-before (subst (Says a.known.W a_num a.known.S a.M f.a f.n) q told) own_in rest_in (omega arith)))
           (kept-one.long ∙ x.kept.long)
 
-      module _ (v : ℤ) (n : ℕ) (q : r ≡ valued.Value v n) where
+      module _ (v : ℤ) (n : ℕ) (q : r ≡ Ok (v, n)) where
         right : Right a.known.W a_num a.known.S a.M f.a f.n v n
         unfolding Says
         right = subst (Says a.known.W a_num a.known.S a.M f.a f.n) q told
@@ -230,12 +227,12 @@ module _ (code values : List ℕ) (c : ℕ) (now : List ℕ) (w op : ℕ) (inv :
             sort-is : sort_in a.known.W f.n ≡ s
             sort-is = sym (es ∙ ap (op_at (cells_of two)) m ∙ (next_here.unread.loaded.words f.n (omega arith) (omega (arith, within, last))).sort)
 
-            ends : (s ≡ comma → ⊥) → ForValues two (judged.Typed no_type n)
+            ends : (s ≡ comma → ⊥) → ForValues two (Ok n)
             unfolding From Chain rest-faults own-faults case_faults
             ends h =
                 let d = f.done (λ e. h (sym sort-is ∙ e)) in
                 let alone : x.es ≡ f.a ∷ [] = f.is ∙ ap (λ (t : List Expr). f.a ∷ t) d.0 in
-                fine-answer _ _ _ _ _ _ no_type n (record {
+                fine-answer _ _ _ _ _ _ n (record {
                   none = all-faults ∙ nothing-in-both right.none (ap (case_faults a.known.W a.known.S a.M) d.0);
                   next-is = m ∙ sym d.1;
                   written = x.on (cells_of two) (outside_wider w g.n changed (omega arith) within) l.op-is
@@ -279,12 +276,12 @@ module _ (code values : List ℕ) (c : ℕ) (now : List ℕ) (w op : ℕ) (inv :
               goes-on = subst (λ (t : ℕ). Valuing g two t a_next_value) (sym m) goes
 
   -- ---- for whatever the case is
-  module _ (one : List ℕ) (r : Valued) (vs : Values now values one num_type (w + 1) r) where
-    pub value-wrong : (number word : ℕ) → r ≡ valued.Faulty number word → CaseValued code values one c (judged.Faulty number word)
-    value-wrong number word q = record { is = λ g. wrong g one r vs number word q }
+  module _ (one : List ℕ) (r : Valued) (vs : Values now values one Num (w + 1) r) where
+    pub value-wrong : (broken : Breach) → r ≡ Err broken → CaseValued code values one c (Err broken)
+    value-wrong broken q = record { is = λ g. wrong g one r vs broken q }
 
-    module _ (v : ℤ) (n : ℕ) (q : r ≡ valued.Value v n) (hv : ℕ) (held : HeldAs v hv) (two : List ℕ) (l : Linked one two w op hv n) (s : ℕ) (es : s ≡ op_at (cells_of two) n) where
-      pub values-end : (s ≡ comma → ⊥) → CaseValued code values two c (judged.Typed no_type n)
+    module _ (v : ℤ) (n : ℕ) (q : r ≡ Ok (v, n)) (hv : ℕ) (held : HeldAs v hv) (two : List ℕ) (l : Linked one two w op hv n) (s : ℕ) (es : s ≡ op_at (cells_of two) n) where
+      pub values-end : (s ≡ comma → ⊥) → CaseValued code values two c (Ok n)
       values-end h = record { is = λ g. ends g one r vs v n q hv held two l s es h }
 
       pub values-go : s ≡ comma → Valuings code values c two n a_next_value

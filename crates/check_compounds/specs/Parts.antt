@@ -19,12 +19,12 @@ use Rattle.check_names.specs.Meanings.{is_protected}
 use Rattle.check_names.specs.Promises.{store_bytes}
 use Rattle.store_writing.specs.Promises.{tail_with, Rewritten, Linked}
 use Rattle.grammar.specs.Form.{Parses, ExprAt, StepAt, ForHeadAt, ExprsAt}
-use Rattle.check_expressions.specs.declared.Judged.{Judged}
 use Rattle.check_links.specs.Resolved.{is_led}
 use Rattle.check_links.specs.Raw.{Ground, SameWords, RawBound, RawStep, RawConstants}
 use Rattle.check_around.specs.declared.Setting.{Setting}
 use Rattle.check_around.specs.Around.{Around, ground_of}
 use Rattle.check_around.specs.Answers as answered
+use Rattle.check_around.specs.Answers.{Stepped}
 use Rattle.check_compounds.specs.Here.{Outside, Here}
 use Rattle.layout.specs.Rules.{too_many, taken_name, hiding_loop}
 
@@ -57,7 +57,7 @@ pub record BoundWritten (raw : Type 0) (before after : List ℕ) (i : ℕ) : Typ
   pub is : raw
   pub op : op_at (cells_of after) i ≡ op_at (cells_of before) i
 
-pub record Bounded (code values after : List ℕ) (i : ℕ) (r : Judged) : Type 0 where
+pub record Bounded (code values after : List ℕ) (i : ℕ) (r : Stepped) : Type 0 where
   pub is : (g : Bounds code values i)
       → answered.Answer (of_type g.around.known.W a_num g.around.known.S g.e) code after i g.z
       (BoundWritten (RawBound (ground_of g.around) g.around.known.n (cells_of after) g.around.known.S g.e i g.z) code after i) r
@@ -76,7 +76,7 @@ pub record Steps (code values : List ℕ) (s : ℕ) : Type 0 where
   pub do_word : sort_in around.known.W d ≡ DO
   pub inside : d ≤ to
 
-pub record Stepped (code values after : List ℕ) (s : ℕ) (r : Judged) : Type 0 where
+pub record ForStepped (code values after : List ℕ) (s : ℕ) (r : Stepped) : Type 0 where
   pub is : (g : Steps code values s)
       → answered.Answer (optional_num g.around.known.W g.around.known.S g.c) code after s g.d
       (RawStep (ground_of g.around) g.around.known.n (cells_of after) g.around.known.S g.c s g.d) r
@@ -116,7 +116,7 @@ pub record NameMay (W : List Word) (S : Scopes) (used i : ℕ) : Type 0 where
   pub hides-none : hides_own S (spelled W (i + 1)) ≡ false
   pub spare : used < call_slots
 
-pub record ForNamed (code values : List ℕ) (used i : ℕ) (r : Judged) : Type 0 where
+pub record ForNamed (code values : List ℕ) (used i : ℕ) (r : Stepped) : Type 0 where
   pub is : (g : ForHeads code values used i)
       → answered.Answer (name_faults g.around.known.W g.around.known.S used i) code code (i + 1) (i + 2) (NameMay g.around.known.W g.around.known.S used i) r
 
@@ -124,7 +124,7 @@ pub record ForMay (g : Ground) (n : ℕ) (C : List ℕ) (S : Scopes) (used : ℕ
   pub name : NameMay g.W S used i
   pub bounds : RawHead g n C S a b c i d
 
-pub record ForHeaded (code values after : List ℕ) (used i : ℕ) (r : Judged) : Type 0 where
+pub record ForHeaded (code values after : List ℕ) (used i : ℕ) (r : Stepped) : Type 0 where
   pub is : (g : ForHeads code values used i)
       → answered.Answer
       (name_faults g.around.known.W g.around.known.S used i
@@ -193,7 +193,7 @@ pub record CaseValues (code values : List ℕ) (c : ℕ) : Type 0 where
   pub ends : sort_in around.known.W n ≡ colon
   pub inside : n < to
 
-pub record CaseValued (code values after : List ℕ) (c : ℕ) (r : Judged) : Type 0 where
+pub record CaseValued (code values after : List ℕ) (c : ℕ) (r : Stepped) : Type 0 where
   pub is : (g : CaseValues code values c)
       → answered.Answer (case_faults g.around.known.W g.around.known.S g.around.M g.es) code after c g.n
       (CaseChain g.around.known.W g.around.known.S g.around.M (cells_of after) g.es g.n c) r

@@ -1,14 +1,16 @@
 // Statements that hold lists, but for the lists: the head of a FOR, the values of a CASE, and what is written over the words that open and close a WHILE, a FOR, an arm of an IF.
+// Both stores are lent one by one: check_statements says why.
 #![tactic(auto)]
 
 ghost use Rattle.paper.specs.Words.{word_limit};
 ghost use Rattle.check_names.specs.Promises.{store_bytes};
 ghost use Rattle.std.specs.Prelude.{◌+◌, ◌*◌, ◌<◌, ◌≤◌, length};
-ghost use Rattle.check_compounds.specs.Parts.{WhileEnded, Bounds, Bounded, Steps, Stepped, ForHeads, ForNamed, ForHeaded, ForEnded, BehindElse, ArmEnded, CaseValues, CaseValued, Chained, ValuesLinked};
+ghost use Rattle.check_compounds.specs.Parts.{WhileEnded, Bounds, Bounded, Steps, ForStepped, ForHeads, ForNamed, ForHeaded, ForEnded, BehindElse, ArmEnded, CaseValues, CaseValued, Chained, ValuesLinked};
 
-use check_constants::Valued;
-use check_expressions::Judged;
-use layout::{limits, ops, parts, rules, types};
+use check_around::Stepped;
+use layout::rules::{Breach, Rule};
+use layout::types::ValueType;
+use layout::{limits, ops, parts};
 use store_writing::{rewrite, set_head, set_link, set_word, sort};
 
 // ---- WHILE
@@ -26,65 +28,62 @@ pub fn while_end(code: &mut [u8], i: usize, d: usize, e: usize)
 // ---- FOR
 
 // A bound: an expression behind a word, whose link is its end.
-fn bound(code: &mut [u8], values: &[u8], i: usize) -> Judged
+fn bound(code: &mut [u8], values: &[u8], i: usize) -> Stepped
     requires { Bounds code.old values.now i }
     ensures { Bounded code.old values.now code.new i result }
 {
-    let j = check_expressions::of_type(code, values, false, types::NUM, i + 1);
-    let Judged::Typed(t, n) = j else {
-        return j;
-    };
+    let (_, n) = check_expressions::of_type(code, values, false, ValueType::Num, i + 1)?;
     set_link(code, i, n);
-    Judged::Typed(t, n)
+    Ok(n)
 }
 
 // STEP with its bound, or DO, at s.
-fn for_step(code: &mut [u8], values: &[u8], s: usize) -> Judged
+fn for_step(code: &mut [u8], values: &[u8], s: usize) -> Stepped
     requires { Steps code.old values.now s }
-    ensures { Stepped code.old values.now code.new s result }
+    ensures { ForStepped code.old values.now code.new s result }
 {
     if sort(code, s) != text_sorts::STEP {
-        return Judged::Typed(types::NONE, s);
+        return Ok(s);
     }
     set_head(code, s, ops::STEP, 0);
     bound(code, values, s)
 }
 
 // The variable of the FOR at i, and what comes behind it.
-fn for_name<'a>(code: &'a [u8], values: &'a [u8], used: u32, i: usize) -> Judged
+fn for_name<'a>(code: &'a [u8], values: &'a [u8], used: u32, i: usize) -> Stepped
     requires { ForHeads code.now values.now used i }
     ensures { ForNamed code.now values.now used i result }
 {
     let m = check_names::meaning(code, values, i + 1);
     if check_names::is_protected(m) {
-        return Judged::Faulty(rules::TAKEN_NAME, i + 1);
+        return Err(Breach {
+            rule: Rule::TakenName,
+            word: i + 1,
+        });
     }
     if check_sites::is_taken(code, values, check_names::OF_ROUTINE, i + 1) {
-        return Judged::Faulty(rules::HIDING_LOOP, i + 1);
+        return Err(Breach {
+            rule: Rule::HidingLoop,
+            word: i + 1,
+        });
     }
     if used == limits::ROUTINE_COUNT {
-        return Judged::Faulty(rules::TOO_MANY, i + 1);
+        return Err(Breach {
+            rule: Rule::TooMany,
+            word: i + 1,
+        });
     }
-    Judged::Typed(types::NONE, i + 2)
+    Ok(i + 2)
 }
 
 // From the FOR at i up to its DO.
-pub fn for_head(code: &mut [u8], values: &[u8], used: u32, i: usize) -> Judged
+pub fn for_head(code: &mut [u8], values: &[u8], used: u32, i: usize) -> Stepped
     requires { ForHeads code.old values.now used i }
     ensures { ForHeaded code.old values.now code.new used i result }
 {
-    let j = for_name(code, values, used, i);
-    let Judged::Typed(_, from) = j else {
-        return j;
-    };
-    let j = bound(code, values, from);
-    let Judged::Typed(_, to) = j else {
-        return j;
-    };
-    let j = bound(code, values, to);
-    let Judged::Typed(_, s) = j else {
-        return j;
-    };
+    let from = for_name(code, values, used, i)?;
+    let to = bound(code, values, from)?;
+    let s = bound(code, values, to)?;
     for_step(code, values, s)
 }
 
@@ -113,9 +112,10 @@ fn behind_else(code: &[u8], e: usize) -> usize
     ensures { BehindElse code.now e result }
 {
     if sort(code, e) == text_sorts::ELSE {
-        return e + 1;
+        e + 1
+    } else {
+        e
     }
-    e
 }
 
 // The list of the THEN at t is closed by the word e. Its arm begins with the word c.
@@ -131,25 +131,21 @@ pub fn arm_end(code: &mut [u8], op: u32, c: usize, t: usize, e: usize)
 // ---- TEST
 
 // The values of one CASE, from its word on, each in the word before it; the colon behind them.
-pub fn case_values(code: &mut [u8], values: &[u8], c: usize) -> Judged
+pub fn case_values(code: &mut [u8], values: &[u8], c: usize) -> Stepped
     requires { CaseValues code.old values.now c }
     ensures { CaseValued code.old values.now code.new c result }
 {
     let mut w = c;
     let mut op = ops::CASE;
+    // No `for`: where the next value is, the one before it tells.
     loop {
-        let v = check_constants::constant(code, values, types::NUM, w + 1);
-        match v {
-            Valued::Faulty(number, word) => return Judged::Faulty(number, word),
-            Valued::Value(v, n) => {
-                set_word(code, w, op, check_constants::held(v), n);
-                if sort(code, n) != text_sorts::COMMA {
-                    return Judged::Typed(types::NONE, n);
-                }
-                w = n;
-                op = ops::NEXT_VALUE;
-            }
+        let (v, n) = check_constants::constant(code, values, ValueType::Num, w + 1)?;
+        set_word(code, w, op, check_constants::held(v), n);
+        if sort(code, n) != text_sorts::COMMA {
+            return Ok(n);
         }
+        w = n;
+        op = ops::NEXT_VALUE;
     }
 }
 
@@ -159,6 +155,7 @@ pub fn link_values(code: &mut [u8], c: usize, colon: usize, next: usize)
     ensures { ValuesLinked code.old code.new colon next c }
 {
     let mut w = c;
+    // No `for`: each value's link in the store says where the next one is.
     loop {
         let h = store_cells::get(code, w * 2);
         let n = (store_cells::get(code, w * 2 + 1) / parts::LINK) as usize;

@@ -8,13 +8,14 @@ use native.Mathlib.Omega.{arith}
 use lib.Dec.{T}
 use lib.IntN.{ℤ, pos, negsuc, nat_abs}
 use lib.Signed.{lt_z, non_neg}
-use mir.Syntax.{w32, w64}
-use mir.Val.{Fits, SFits}
+use mir.Syntax.{w64}
+use mir.Val.{SFits}
 use mir.Facts.{to_z-of_z}
 use borrow.Author.Tests.{ltb-false}
 use Rattle.laws.proofs.Tests.{test, apart, false-true}
+use Rattle.std.specs.Prelude.{Ok, Err}
 use Rattle.paper.specs.Words.{Word}
-use Rattle.paper.specs.Numbers.{num, Value, value, error}
+use Rattle.paper.specs.Numbers.{Value, value, error}
 use Rattle.paper.specs.Terms.{Memory, Term, worth}
 use Rattle.paper.specs.Trees.{Expr, first}
 use Rattle.paper.specs.Names.{DataType, a_num, Scopes, sort_in}
@@ -23,26 +24,28 @@ use Rattle.store_cells.specs.Cells.{cells_of}
 use Rattle.climb.proofs.Places.{spans-first, stands}
 use Rattle.code.specs.Cells.{first_window}
 use Rattle.layout.specs.Rules.{wrong_type, no_value}
-use Rattle.layout.specs.Types.{num_type, type_in, IsType}
-use Rattle.layout.proofs.Typing.{num-in}
+use Rattle.layout.specs.Broken.{as_fault}
+use Rattle.layout.specs.declared.rules.Breach.{Breach}
+use Rattle.layout.specs.declared.rules.Rule.TheVariants.{NoValue}
+use Rattle.layout.specs.Types.{type_in}
+use Rattle.layout.specs.declared.types.ValueType.{ValueType}
+use Rattle.layout.specs.declared.types.ValueType.TheVariants.{Num}
 use Rattle.store_evaluation.specs.Answers.{first_error, decoded, Counts, Stores, Evaluated}
 use Rattle.store_evaluation.specs.Answers as evaluation
 use Rattle.store_evaluation.proofs.Numbers.{is-value, is-error}
 use Rattle.store_numbers.proofs.Whole.{read}
 use Rattle.faults.specs.First.{Every, no-fault, ◌also◌, Inside, First}
 use Rattle.faults.proofs.First.{every_one, widen, ranks, leads-same-if, first-fault, first-rising, first-left, first_alone}
-use Rattle.check_expressions.specs.declared.Judged.{Judged}
-use Rattle.check_expressions.specs.declared.Judged.TheVariants.{Typed, Faulty}
+use Rattle.check_expressions.specs.Judgements.{Judged}
 use Rattle.store_writing.specs.Promises.{Kept}
 use Rattle.check_expressions.specs.Answers.{Sound, of_type, OfType}
 use Rattle.check_expressions.proofs.FaultsOfParts.{append-none}
 use Rattle.check_expressions.proofs.Order.{Rising, rising-wanted}
 use Rattle.check_expressions.proofs.Around.{says-faulty}
 use Rattle.check_expressions.proofs.Callers.{of-type-typed}
-use Rattle.check_constants.specs.declared.Valued.{Valued}
-use Rattle.check_constants.specs.declared.Valued.TheVariants as values_of
-use Rattle.check_constants.specs.declared.Sized.TheVariants as sizes-of
+use Rattle.check_constants.specs.Sizing.{Valued}
 use Rattle.check_constants.specs.Answers.{InNum, Worth, Asks, Right, Says, Values, SaysSize, Sizes}
+use Rattle.check_constants.proofs.NumbersHeld.{in-num-64}
 use Rattle.check_constants.proofs.Terms.{Constantly, none_left, none_right, some-fault, wanted-clean, constantly, constantly-same, constantly-held}
 
 -- ---- faults that rise
@@ -121,35 +124,35 @@ raises-error k x h = rw h
 pub stores : (code values : List ℕ) (at : ℕ) → Asks code values at → Stores values first_window
 stores code values at a = let l = a.stands.known.table in record { words = omega (arith, l); call = omega (arith, l); number = a.number }
 
-module _ (code values after : List ℕ) (wants at : ℕ) (j : Judged) (o : OfType code values after true wants at j) where
+module _ (code values after : List ℕ) (wants : ValueType) (at : ℕ) (j : Judged) (o : OfType code values after true wants at j) where
   first_word : (a : Asks code values at) → first a.stands.e ≡ at
   first_word a = spans-first a.stands.e at a.stands.to (stands (sort_in a.stands.known.W) a.stands.d 5 at (a.stands.e, a.stands.to) a.stands.is)
 
-  kept-all : IsType wants → (a : Asks code values at) → Kept code after at a.stands.to
-  kept-all y a = (o.is a.stands y.type y.is).kept
+  kept-all : (a : Asks code values at) → Kept code after at a.stands.to
+  kept-all a = (o.is a.stands (type_in wants) refl).kept
 
-  pub answers-faulty : IsType wants → (number word : ℕ) → j ≡ Faulty number word → Values code values after wants at (values_of.Faulty number word)
+  pub answers-faulty : (broken : Breach) → j ≡ Err broken → Values code values after wants at (Err broken)
   unfolding Says raises_error
-  answers-faulty y number word q = record {
+  answers-faulty broken q = record {
     says = λ a t w.
         let W = a.stands.known.W in
         let S = a.stands.known.S in
         let e = a.stands.e in
-        let f = says-faulty _ _ _ _ _ _ j number word q (o.is a.stands t w).says in
+        let f = says-faulty _ _ _ _ _ _ j broken q (o.is a.stands t w).says in
         let s = stands (sort_in W) a.stands.d 5 at (e, a.stands.to) a.stands.is in
-        wanted-leads W S a.M e t raises_error refl (record { number = number; at = word })
-        (rising-first at a.stands.to (record { number = number; at = word }) f.others _ f.faults-are (rising-wanted W true S t e at a.stands.to s));
-    kept = kept-all y;
+        wanted-leads W S a.M e t raises_error refl (as_fault broken)
+        (rising-first at a.stands.to (as_fault broken) f.others _ f.faults-are (rising-wanted W true S t e at a.stands.to s));
+    kept = kept-all;
   }
 
-  module _ (type next : ℕ) (typed : j ≡ Typed type next) where
+  module _ (type : ValueType) (next : ℕ) (typed : j ≡ Ok (type, next)) where
     counts : Asks code values at → Counts
     counts a = record { m = a.stands.known.m; n = a.stands.known.n; most = a.stands.known.most; window = a.window }
 
     term-of : Asks code values at → Term
     term-of a = (judge a.stands.known.W true a.stands.known.S a.stands.e).term
 
-    module _ (t : DataType) (w : type_in wants ≡ some t) where
+    module _ (t : DataType) (w : type_in wants ≡ t) where
       sound : (a : Asks code values at) → Sound a.stands.known.m a.stands.known.n (cells_of after) at a.stands.to
           (of_type t (first a.stands.e) (judge a.stands.known.W true a.stands.known.S a.stands.e)) type next
       sound a = of-type-typed code values after true at j wants t w a.stands o type next typed
@@ -157,34 +160,33 @@ module _ (code values after : List ℕ) (wants at : ℕ) (j : Judged) (o : OfTyp
       clean : (a : Asks code values at) → (judge a.stands.known.W true a.stands.known.S a.stands.e).faults ≡ []
       clean a = wanted-clean t (first a.stands.e) _ (sound a).none
 
-    module _ (y : IsType wants) where
-      stands-there : (a : Asks code values at) → evaluation.term_of (counts a) after at next ≡ some (term-of a)
-      unfolding counts term-of
-      stands-there a = let k = sound y.type y.is a in subst (λ (k : ℕ). evaluation.term_of (counts a) after at k ≡ some (term-of a)) (sym k.next-is) k.stands
+    stands-there : (a : Asks code values at) → evaluation.term_of (counts a) after at next ≡ some (term-of a)
+    unfolding counts term-of
+    stands-there a = let k = sound (type_in wants) refl a in subst (λ (k : ℕ). evaluation.term_of (counts a) after at k ≡ some (term-of a)) (sym k.next-is) k.stands
 
-      pub evaluable : Asks code values at → evaluation.Stands after at next
-      evaluable a =
-          record { c = counts a; t = term-of a; is = stands-there a; whole = ap (λ (x : ℕ). x % 8) (kept-all y a).long ∙ a.stands.loaded.whole }
+    pub evaluable : Asks code values at → evaluation.Stands after at next
+    evaluable a =
+        record { c = counts a; t = term-of a; is = stands-there a; whole = ap (λ (x : ℕ). x % 8) (kept-all a).long ∙ a.stands.loaded.whole }
 
-    module _ (y : IsType wants) (v : ℤ) (x : Evaluated after values first_window at next v) (s : SFits w64 v) where
+    module _ (v : ℤ) (x : Evaluated after values first_window at next v) (s : SFits w64 v) where
       constant-only : (a : Asks code values at) → Constantly (Worth a.stands.known.m a.stands.known.n (cells_of values) a.M) (term-of a)
       unfolding term-of
       constant-only a =
-          constantly a.stands.known.m a.stands.known.n (cells_of values) a.M a.stands.known.W a.stands.known.S a.stands.known.small a.fine a.stands.e (clean y.type y.is a)
+          constantly a.stands.known.m a.stands.known.n (cells_of values) a.M a.stands.known.W a.stands.known.S a.stands.known.small a.fine a.stands.e (clean (type_in wants) refl a)
 
       worth-is : (a : Asks code values at) → constant_worth a.stands.known.W a.stands.known.S a.M a.stands.e ≡ some (decoded v)
       unfolding counts term-of
       worth-is a =
-          worth-some a.stands.known.W a.stands.known.S a.M a.stands.e (clean y.type y.is a)
-          ∙ ap some (constantly-same a.stands.known.m a.stands.known.n (cells_of values) a.M (term-of a) (constant-only a) ∙ sym (x.is (counts a) (term-of a) (stands-there y a)))
+          worth-some a.stands.known.W a.stands.known.S a.M a.stands.e (clean (type_in wants) refl a)
+          ∙ ap some (constantly-same a.stands.known.m a.stands.known.n (cells_of values) a.M (term-of a) (constant-only a) ∙ sym (x.is (counts a) (term-of a) (stands-there a)))
 
       held : (a : Asks code values at) → decoded v ≡ value v → InNum v
       unfolding counts term-of
       held a d =
           (constantly-held a.stands.known.m a.stands.known.n (cells_of values) a.M (term-of a) (constant-only a)
-          ).holds v (constantly-same a.stands.known.m a.stands.known.n (cells_of values) a.M (term-of a) (constant-only a) ∙ sym (x.is (counts a) (term-of a) (stands-there y a)) ∙ d)
+          ).holds v (constantly-same a.stands.known.m a.stands.known.n (cells_of values) a.M (term-of a) (constant-only a) ∙ sym (x.is (counts a) (term-of a) (stands-there a)) ∙ d)
 
-      pub answers-value : lt_z (read v) (pos first_error) ≡ true → Values code values after wants at (values_of.Value (read v) next)
+      pub answers-value : lt_z (read v) (pos first_error) ≡ true → Values code values after wants at (Ok (read v, next))
       unfolding Says constant_value value_or0
       answers-value h =
           let r : read v ≡ v = to_z-of_z s in
@@ -201,10 +203,10 @@ module _ (code values after : List ℕ) (wants at : ℕ) (j : Judged) (o : OfTyp
                   ranged = rw r (held a d);
                   next-is = (sound t w a).next-is;
                 };
-            kept = kept-all y;
+            kept = kept-all;
           }
 
-      pub answers-error : lt_z (read v) (pos first_error) ≡ false → Values code values after wants at (values_of.Faulty no_value at)
+      pub answers-error : lt_z (read v) (pos first_error) ≡ false → Values code values after wants at (Err (record { rule = NoValue; word = at }))
       unfolding Says
       answers-error h =
           let r : read v ≡ v = to_z-of_z s in
@@ -217,7 +219,7 @@ module _ (code values after : List ℕ) (wants at : ℕ) (j : Judged) (o : OfTyp
                 let q : constant_faults W raises_error t S a.M e ≡ fault no_value at =
                 faults-bad W S a.M e t raises_error (sound t w a).none (raises-error (nat_abs v - first_error) _ (worth-is a ∙ ap some d)) ∙ ap (fault no_value) (first_word a) in
                 subst (First (record { number = no_value; at = at })) (sym q) (first-fault no_value at);
-            kept = kept-all y;
+            kept = kept-all;
           }
 
 -- ---- sizes
@@ -268,38 +270,30 @@ size_number : (z : ℤ) → lt_z z (pos 1) ≡ false → lt_z (pos element_limit
 size_number (pos n) h g = (omega (arith, ltb-false n 1 h), ltb-false element_limit n g, tt)
 size_number (negsuc n) h g = false-true (sym h)
 
-pub size-cast : (v : ℤ) → lt_z (read v) (pos 1) ≡ false → lt_z (pos element_limit) (read v) ≡ false → T (non_neg (read v)) × Fits w32 (nat_abs (read v))
-size-cast v h g = let n = size_number (read v) h g in (n.2, record { fits = omega (arith, n.1) })
-
-in-num-fits : (z : ℤ) → InNum z → SFits w64 z
-unfolding num
-in-num-fits (pos n) h = record { sfits = omega (arith, ltb-false 8388608 n h.high) }
-in-num-fits (negsuc n) h = record { sfits = omega (arith, ltb-false 8388606 n h.low) }
-
-says-valued : (W : List Word) (t : DataType) (S : Scopes) (M : Memory) (e : Expr) (to : ℕ) (c : Valued) (v : ℤ) (next : ℕ) → c ≡ values_of.Value v next → Says W t S M e to c → Right W t S M e to v next
+says-valued : (W : List Word) (t : DataType) (S : Scopes) (M : Memory) (e : Expr) (to : ℕ) (c : Valued) (v : ℤ) (next : ℕ) → c ≡ Ok (v, next) → Says W t S M e to c → Right W t S M e to v next
 unfolding Says
 says-valued W t S M e to c v next q s = subst (Says W t S M e to) q s
 
-says_first : (W : List Word) (t : DataType) (S : Scopes) (M : Memory) (e : Expr) (to : ℕ) (c : Valued) (number word : ℕ) → c ≡ values_of.Faulty number word → Says W t S M e to c
-    → First (record { number = number; at = word }) (constant_faults W raises_error t S M e)
+says_first : (W : List Word) (t : DataType) (S : Scopes) (M : Memory) (e : Expr) (to : ℕ) (c : Valued) (broken : Breach) → c ≡ Err broken → Says W t S M e to c
+    → First (as_fault broken) (constant_faults W raises_error t S M e)
 unfolding Says
-says_first W t S M e to c number word q s = subst (Says W t S M e to) q s
+says_first W t S M e to c broken q s = subst (Says W t S M e to) q s
 
-module _ (code values after : List ℕ) (at : ℕ) (c : Valued) (o : Values code values after num_type at c) where
-  pub size-faulty : (number word : ℕ) → c ≡ values_of.Faulty number word → Sizes code values after at (sizes-of.Unsized number word)
+module _ (code values after : List ℕ) (at : ℕ) (c : Valued) (o : Values code values after Num at c) where
+  pub size-faulty : (broken : Breach) → c ≡ Err broken → Sizes code values after at (Err broken)
   unfolding SaysSize
-  size-faulty number word q = record {
-    says = λ a. size-first a.stands.known.W a.stands.known.S a.M a.stands.e a_num (record { number = number; at = word })
-        (says_first a.stands.known.W a_num a.stands.known.S a.M a.stands.e a.stands.to c number word q (o.says a a_num num-in));
+  size-faulty broken q = record {
+    says = λ a. size-first a.stands.known.W a.stands.known.S a.M a.stands.e a_num (as_fault broken)
+        (says_first a.stands.known.W a_num a.stands.known.S a.M a.stands.e a.stands.to c broken q (o.says a a_num refl));
     kept = o.kept;
   }
 
-  module _ (v : ℤ) (next : ℕ) (q : c ≡ values_of.Value v next) where
+  module _ (v : ℤ) (next : ℕ) (q : c ≡ Ok (v, next)) where
     right : (a : Asks code values at) → Right a.stands.known.W a_num a.stands.known.S a.M a.stands.e a.stands.to v next
-    right a = says-valued a.stands.known.W a_num a.stands.known.S a.M a.stands.e a.stands.to c v next q (o.says a a_num num-in)
+    right a = says-valued a.stands.known.W a_num a.stands.known.S a.M a.stands.e a.stands.to c v next q (o.says a a_num refl)
 
     pub value-fits : Asks code values at → SFits w64 v
-    value-fits a = in-num-fits v (right a).ranged
+    value-fits a = in-num-64 v (right a).ranged
 
     clean-wants : (a : Asks code values at) → wanted a_num (first a.stands.e) (judge a.stands.known.W true a.stands.known.S a.stands.e) ≡ []
     clean-wants a = clean-wanted a.stands.known.W a.stands.known.S a.M a.stands.e a_num raises_error (right a).none
@@ -313,7 +307,7 @@ module _ (code values after : List ℕ) (at : ℕ) (c : Valued) (o : Values code
         let k = wanted-clean a_num (first e) (judge W true S e) (clean-wants a) in
         value_of (constant_worth W S a.M e) _ (worth-some W S a.M e k) (clean-calm W S a.M e a_num raises_error (right a).none) ∙ ap (λ (z : ℤ). some (value z)) (sym (right a).is)
 
-    no_size : ((a : Asks code values at) → is_no_size (constant_worth a.stands.known.W a.stands.known.S a.M a.stands.e) ≡ true) → Sizes code values after at (sizes-of.Unsized no_value at)
+    no_size : ((a : Asks code values at) → is_no_size (constant_worth a.stands.known.W a.stands.known.S a.M a.stands.e) ≡ true) → Sizes code values after at (Err (record { rule = NoValue; word = at }))
     unfolding SaysSize
     no_size bad = record {
       says = λ a.
@@ -326,14 +320,14 @@ module _ (code values after : List ℕ) (at : ℕ) (c : Valued) (o : Values code
       kept = o.kept;
     }
 
-    pub size_low : lt_z (read v) (pos 1) ≡ true → Sizes code values after at (sizes-of.Unsized no_value at)
+    pub size_low : lt_z (read v) (pos 1) ≡ true → Sizes code values after at (Err (record { rule = NoValue; word = at }))
     size_low h = no_size (λ a. no-size-low _ v (value-is a) (rw (to_z-of_z (value-fits a)) at h))
 
-    pub size-high : lt_z (read v) (pos 1) ≡ false → lt_z (pos element_limit) (read v) ≡ true → Sizes code values after at (sizes-of.Unsized no_value at)
+    pub size-high : lt_z (read v) (pos 1) ≡ false → lt_z (pos element_limit) (read v) ≡ true → Sizes code values after at (Err (record { rule = NoValue; word = at }))
     size-high h g = no_size (λ a. no-size-high _ v (value-is a) (rw (to_z-of_z (value-fits a)) at h) (rw (to_z-of_z (value-fits a)) at g))
 
     module _ (h : lt_z (read v) (pos 1) ≡ false) (g : lt_z (pos element_limit) (read v) ≡ false) where
-      pub size-fine : Sizes code values after at (sizes-of.Count (nat_abs (read v)) next)
+      pub size-fine : Sizes code values after at (Ok (nat_abs (read v), next))
       unfolding SaysSize
       size-fine = record {
         says = λ a.

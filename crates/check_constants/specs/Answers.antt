@@ -1,10 +1,11 @@
 -- What a constant expression is worth, and what its check asks of the two stores.
-use Rattle.std.specs.Prelude.{◌≡◌, Bool, true, false, List, [], ℕ, ◌+◌, ◌<◌, ◌≤◌, get_or, ℤ, pos, ◌-ℤ◌}
-use Rattle.std.proofs.Math.Option.{some}
+use Rattle.layout.specs.declared.types.ValueType.{ValueType}
+use Rattle.layout.specs.Broken.{as_fault}
+use Rattle.std.specs.Prelude.{◌≡◌, true, false, List, [], ℕ, ◌+◌, ◌<◌, ◌≤◌, get_or, ℤ, pos, ◌-ℤ◌, Ok, Err}
 use Rattle.std.specs.Int.Signed.{lt_z}
 use Rattle.std.specs.Int.{w32}
 use Rattle.std.proofs.Common.{to_z}
-use Rattle.paper.specs.Numbers.{num, Value}
+use Rattle.paper.specs.Numbers.{num}
 use Rattle.paper.specs.Terms.{Ref, of_module, of_routine, Memory, load}
 use Rattle.paper.specs.Trees.{Expr}
 use Rattle.paper.specs.Words.{Word}
@@ -20,10 +21,7 @@ use Rattle.check_expressions.specs.Known.{largest, InRoom, Holds, held_by}
 use Rattle.store_writing.specs.Promises.{Kept}
 use Rattle.layout.specs.Types.{type_in}
 use Rattle.check_expressions.specs.Answers.{Stands}
-use Rattle.check_constants.specs.declared.Valued.{Valued}
-use Rattle.check_constants.specs.declared.Valued.TheVariants as values_of
-use Rattle.check_constants.specs.declared.Sized.{Sized}
-use Rattle.check_constants.specs.declared.Sized.TheVariants as sizes-of
+use Rattle.check_constants.specs.Sizing.{Valued, Sized}
 
 -- ---- what constants are worth
 -- The cell of a word: the module's words are the first cells, and those of the routine that is being checked stand in the first window.
@@ -69,11 +67,11 @@ pub record Right (W : List Word) (t : DataType) (S : Scopes) (M : Memory) (e : E
   pub next-is : next ≡ to
 
 unfoldable pub Says : (W : List Word) → DataType → Scopes → Memory → Expr → (to : ℕ) → Valued → Type 0
-Says W t S M e to (values_of.Value v next) = Right W t S M e to v next
-Says W t S M e to (values_of.Faulty number word) = First (record { number = number; at = word }) (constant_faults W raises_error t S M e)
+Says W t S M e to (Ok (v, next)) = Right W t S M e to v next
+Says W t S M e to (Err broken) = First (as_fault broken) (constant_faults W raises_error t S M e)
 
-pub record Values (code values after : List ℕ) (wants at : ℕ) (r : Valued) : Type 0 where
-  pub says : (a : Asks code values at) (t : DataType) → type_in wants ≡ some t → Says a.stands.known.W t a.stands.known.S a.M a.stands.e a.stands.to r
+pub record Values (code values after : List ℕ) (wants : ValueType) (at : ℕ) (r : Valued) : Type 0 where
+  pub says : (a : Asks code values at) (t : DataType) → type_in wants ≡ t → Says a.stands.known.W t a.stands.known.S a.M a.stands.e a.stands.to r
   pub kept : (a : Asks code values at) → Kept code after at a.stands.to
 
 -- ---- sizes
@@ -86,8 +84,8 @@ pub record Counted (W : List Word) (S : Scopes) (M : Memory) (e : Expr) (to : �
   pub next-is : next ≡ to
 
 unfoldable pub SaysSize : (W : List Word) → Scopes → Memory → Expr → (to : ℕ) → Sized → Type 0
-SaysSize W S M e to (sizes-of.Count count next) = Counted W S M e to count next
-SaysSize W S M e to (sizes-of.Unsized number word) = First (record { number = number; at = word }) (constant_faults W is_no_size a_num S M e)
+SaysSize W S M e to (Ok (count, next)) = Counted W S M e to count next
+SaysSize W S M e to (Err broken) = First (as_fault broken) (constant_faults W is_no_size a_num S M e)
 
 pub record Sizes (code values after : List ℕ) (at : ℕ) (r : Sized) : Type 0 where
   pub says : (a : Asks code values at) → SaysSize a.stands.known.W a.stands.known.S a.M a.stands.e a.stands.to r

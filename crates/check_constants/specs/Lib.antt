@@ -1,1 +1,2 @@
+pub mod Sizing
 pub mod Answers

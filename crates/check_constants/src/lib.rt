@@ -1,29 +1,19 @@
 // Constant expressions: checked as any expression is, and worked out from the words that constants have so far.
+// Both stores are lent one by one: check_statements says why.
 #![tactic(auto)]
 
 ghost use Rattle.std.specs.Prelude.{◌≡◌};
 ghost use Rattle.check_constants.specs.Answers.{InNum, HeldAs, Asks, Values, Sizes};
-ghost use Rattle.layout.specs.Types.{IsType};
 
-use check_expressions::Judged;
-use layout::types::Type;
-use layout::{answers, limits, parts, rules, types};
+use layout::rules::{Breach, Rule};
+use layout::types::ValueType;
+use layout::{answers, limits, parts};
 
-#[derive(Drop)]
-pub enum Valued {
-    // its value, and the word after it
-    Value(i64, usize),
-    // the rule broken, and its word
-    Faulty(u32, usize),
-}
+// A value, and the word after it; or the rule broken, and its word.
+pub type Valued = Result<(i64, usize), Breach>;
 
-#[derive(Drop)]
-pub enum Sized {
-    // how many, and the word after it
-    Count(u32, usize),
-    // the rule broken, and its word
-    Unsized(u32, usize),
-}
+// How many elements an array has, and the word after its size; or the rule broken, and its word.
+pub type Sized = Result<(u32, usize), Breach>;
 
 // A number of num as a head holds it.
 pub fn held(v: i64) -> u32
@@ -34,20 +24,19 @@ pub fn held(v: i64) -> u32
 }
 
 // A constant expression of a type. The words of the routine that is being checked stand in the first window.
-pub fn constant(code: &mut [u8], values: &[u8], wants: Type, at: usize) -> Valued
-    requires { Asks code.old values.now at × IsType wants }
+pub fn constant(code: &mut [u8], values: &[u8], wants: ValueType, at: usize) -> Valued
+    requires { Asks code.old values.now at }
     ensures { Values code.old values.now code.new wants at result }
 {
-    let j = check_expressions::of_type(code, values, true, wants, at);
-    match j {
-        Judged::Faulty(number, word) => Valued::Faulty(number, word),
-        Judged::Typed(_, next) => {
-            let v = store_evaluation::worth(code, values, layout::cells::FIRST_WINDOW, at, next);
-            if v < answers::FIRST_ERROR {
-                return Valued::Value(v, next);
-            }
-            Valued::Faulty(rules::NO_VALUE, at)
-        }
+    let (_, next) = check_expressions::of_type(code, values, true, wants, at)?;
+    let v = store_evaluation::worth(code, values, layout::cells::FIRST_WINDOW, at, next);
+    if v < answers::FIRST_ERROR {
+        Ok((v, next))
+    } else {
+        Err(Breach {
+            rule: Rule::NoValue,
+            word: at,
+        })
     }
 }
 
@@ -56,17 +45,12 @@ pub fn size(code: &mut [u8], values: &[u8], at: usize) -> Sized
     requires { Asks code.old values.now at }
     ensures { Sizes code.old values.now code.new at result }
 {
-    let c = constant(code, values, types::NUM, at);
-    match c {
-        Valued::Faulty(number, word) => Sized::Unsized(number, word),
-        Valued::Value(v, next) => {
-            if v < 1 {
-                return Sized::Unsized(rules::NO_VALUE, at);
-            }
-            if limits::ELEMENT_COUNT < v {
-                return Sized::Unsized(rules::NO_VALUE, at);
-            }
-            Sized::Count(v as u32, next)
-        }
+    let (v, next) = constant(code, values, ValueType::Num, at)?;
+    if v < 1 || limits::ELEMENT_COUNT < v {
+        return Err(Breach {
+            rule: Rule::NoValue,
+            word: at,
+        });
     }
+    Ok((v as u32, next))
 }

@@ -34,16 +34,18 @@ use Rattle.faults.proofs.First.{every_one, nothing-in-both}
 use Rattle.faults.proofs.Declarations.{name-taken, name-crosses, name-fits, found-in-name, found-in-content}
 use Rattle.store_writing.specs.Promises.{Kept}
 use Rattle.store_writing.proofs.Keeping.{cell_below, cell-above}
-use Rattle.check_constants.specs.declared.Sized.TheVariants as sizes-of
-use Rattle.check_constants.specs.declared.Sized.{Sized as Size}
+use Rattle.check_constants.specs.Sizing.{Sized as Size}
 use Rattle.check_constants.specs.Answers.{Asks, Sizes, Counted}
 use Rattle.check_constants.specs.Answers as constants
 use Rattle.check_names.specs.declared.Scope.{Scope}
 use Rattle.check_names.specs.Scopes.{with_used}
-use Rattle.check_names.specs.declared.Walked.{Walked}
-use Rattle.check_names.specs.declared.Walked.TheVariants.{Upto, Faulty}
+use Rattle.check_names.specs.Scopes.{Walked}
+use Rattle.std.specs.Prelude.{Ok, Err}
+use Rattle.layout.specs.Broken.{as_fault}
+use Rattle.layout.specs.declared.rules.Breach.{Breach}
+use Rattle.layout.specs.declared.rules.Rule.TheVariants.{TakenName, TooMany}
 use Rattle.check_sites.specs.Sites.{filling, own_of, scopes_of, memory_of, Placed, owned, Owns}
-use Rattle.check_datum.specs.Answers.{Begins, Free, after, faults_of, Says, Declares, Near}
+use Rattle.check_datum.specs.Answers.{Begins, Free, faults_of, Says, Declares, Near}
 use Rattle.check_sites.specs.Parts.{Taken, Makes}
 use Rattle.check_datum.specs.Parts.{Starts, DeclaresFree}
 use Rattle.check_sites.proofs.TwoSites.{site-ref, own-small, own-here, among-new, limit-most, used-most, crossing, not-crossing}
@@ -119,17 +121,17 @@ size-refused W S M e f h = by-faults (constant_faults W is_no_size a_num S M e) 
     by-faults [] q = none_first f (subst (First f) q h)
     by-faults (g ∷ r) q = rw (q, size_of)
 
-says-sized : (W : List Word) (S : Scopes) (M : Memory) (e : Expr) (to : ℕ) (c : Size) (count next : ℕ) → c ≡ sizes-of.Count count next → constants.SaysSize W S M e to c → Counted W S M e to count next
+says-sized : (W : List Word) (S : Scopes) (M : Memory) (e : Expr) (to : ℕ) (c : Size) (count next : ℕ) → c ≡ Ok (count, next) → constants.SaysSize W S M e to c → Counted W S M e to count next
 unfolding constants.SaysSize
 says-sized W S M e to c count next q h = subst (constants.SaysSize W S M e to) q h
 
-says-unsized : (W : List Word) (S : Scopes) (M : Memory) (e : Expr) (to : ℕ) (c : Size) (number word : ℕ) → c ≡ sizes-of.Unsized number word → constants.SaysSize W S M e to c
-    → First (record { number = number; at = word }) (constant_faults W is_no_size a_num S M e)
+says-unsized : (W : List Word) (S : Scopes) (M : Memory) (e : Expr) (to : ℕ) (c : Size) (broken : Breach) → c ≡ Err broken → constants.SaysSize W S M e to c
+    → First (as_fault broken) (constant_faults W is_no_size a_num S M e)
 unfolding constants.SaysSize
-says-unsized W S M e to c number word q h = subst (constants.SaysSize W S M e to) q h
+says-unsized W S M e to c broken q h = subst (constants.SaysSize W S M e to) q h
 
 -- an answer's numbers
-module _ (code values mid : List ℕ) (at : ℕ) (c : Size) (a : Asks code values at) (o : Sizes code values mid at c) (count next : ℕ) (q : c ≡ sizes-of.Count count next) where
+module _ (code values mid : List ℕ) (at : ℕ) (c : Size) (a : Asks code values at) (o : Sizes code values mid at c) (count next : ℕ) (q : c ≡ Ok (count, next)) where
   counted : Counted a.stands.known.W a.stands.known.S a.M a.stands.e a.stands.to count next
   counted = says-sized a.stands.known.W a.stands.known.S a.M a.stands.e a.stands.to c count next q (o.says a)
 
@@ -184,19 +186,19 @@ module _ {code values : List ℕ} {own limit used i : ℕ} (brace : op_at (cells
     S : (b : Begins code values own limit used i) → Scopes
     S b = scopes_of b.W b.s b.D
 
-    pub array-faulty : (number word : ℕ) → c ≡ sizes-of.Unsized number word → DeclaresFree code values mid values own limit used i (Faulty number word)
+    pub array-faulty : (broken : Breach) → c ≡ Err broken → DeclaresFree code values mid values own limit used i (Err broken)
     unfolding Says content_faults content_slots
-    array-faulty number word q = record {
+    array-faulty broken q = record {
       is = λ b free.
           let e = (sized b).e in
-          let h = says-unsized b.W (scopes_of b.W b.s b.D) (memory_of b.W b.s b.D) e (sized b).n c number word q (o.says (size-asks b)) in
+          let h = says-unsized b.W (scopes_of b.W b.s b.D) (memory_of b.W b.s b.D) e (sized b).n c broken q (o.says (size-asks b)) in
           let z : length (content_slots b.W (F b) (content b) b.D) ≡ 0 =
           ap (λ (x : Content). length (content_slots b.W (F b) x b.D)) (sized b).is ∙ length-replicate _ (pos 0) ∙ size-refused b.W _ _ e _ h in
-          in-content b (record { number = number; at = word }) free (omega (arith, z, room-left b))
-          (subst (λ (x : Content). First (record { number = number; at = word }) (content_faults b.W (F b) (type b) x b.D)) (sym (sized b).is) h);
+          in-content b (as_fault broken) free (omega (arith, z, room-left b))
+          (subst (λ (x : Content). First (as_fault broken) (content_faults b.W (F b) (type b) x b.D)) (sym (sized b).is) h);
     }
 
-    module _ (count next : ℕ) (q : c ≡ sizes-of.Count count next) where
+    module _ (count next : ℕ) (q : c ≡ Ok (count, next)) where
       count-is : (b : Begins code values own limit used i) → Counted b.W (scopes_of b.W b.s b.D) (memory_of b.W b.s b.D) (sized b).e (sized b).n count next
       count-is b = says-sized b.W (scopes_of b.W b.s b.D) (memory_of b.W b.s b.D) (sized b).e (sized b).n c count next q (o.says (size-asks b))
 
@@ -207,7 +209,7 @@ module _ {code values : List ℕ} {own limit used i : ℕ} (brace : op_at (cells
       long-is : (b : Begins code values own limit used i) → length (content_slots b.W (F b) (content b) b.D) ≡ count
       long-is b = ap length (words_are b) ∙ length-replicate count (pos 0)
 
-      pub array-crosses : limit < used + count → DeclaresFree code values mid values own limit used i (Faulty too_many (i + 2))
+      pub array-crosses : limit < used + count → DeclaresFree code values mid values own limit used i (Err (record { rule = TooMany; word = i + 2 }))
       unfolding Says
       array-crosses over = record { is = λ b free. too-many b free (omega (arith, over, long-is b, b.used-is, b.limit_is)) }
 
@@ -242,10 +244,10 @@ module _ {code values : List ℕ} {own limit used i : ℕ} (brace : op_at (cells
             subst (λ (x : Content). Placed ((F b).memory_with (b.D.words ++ vs)) (content_meaning b.W (F b) (type b) x b.D ((F b).ref (length b.D.words)))) (sym (sized b).is)
             (record { room = among-new b.W b.s b.D.words vs (length b.D.words) _ (omega (arith, long-is b, k.is)); some = omega (arith, k.some, k.is); ranged = λ e. false-true e })
 
-        pub array-goes : (filled : Scope) → filled.used ≡ used + count → DeclaresFree code values code' values' own limit used i (Upto (next + 2) filled)
+        pub array-goes : (filled : Scope) → filled.used ≡ used + count → DeclaresFree code values code' values' own limit used i (Ok (next + 2, filled))
         unfolding Says content_faults
         array-goes filled e = record {
-          is = λ b free. subst (λ (u : ℕ). Says b code' values' (Upto (next + 2) (with_used u filled))) (sym e) (
+          is = λ b free. subst (λ (u : ℕ). Says b code' values' (Ok (next + 2, with_used u filled))) (sym e) (
               let k = count-is b in
               let around = around-kept code mid i (i + 4) (sized b).n b.to (omega arith) (before-end b) (o.kept (size-asks b)) in
               record {
@@ -268,7 +270,7 @@ module _ {code values : List ℕ} {own limit used i : ℕ} (t : Bool) (taken : T
       ((b.loaded.words (i + 2) (omega arith) (omega (arith, far b))).number b.stands.name)
       (subst (λ (k : ℕ). Owns k b.D.names (scopes_of b.W b.s b.D)) (sym b.own_is) b.filled.owns)
 
-  pub datum-taken : t ≡ true → Declares code values code values own limit used i (Faulty taken_name (i + 2))
+  pub datum-taken : t ≡ true → Declares code values code values own limit used i (Err (record { rule = TakenName; word = i + 2 }))
   unfolding Says
   datum-taken h = record {
     is = λ b.

@@ -2,8 +2,7 @@
 use mathlib.Core.Path.{◌≡◌, refl, sym, ap, subst, ◌∙◌}
 use mathlib.Core.Bool.{true}
 use mathlib.Core.List.{List, [], ◌∷◌, ◌++◌}
-use mathlib.Core.Option.{some}
-use Prim.Native.Nat.{ℕ, suc, ◌+◌, ◌*◌, ◌<◌, ◌≤◌}
+use Prim.Native.Nat.{ℕ, suc, ◌+◌, ◌<◌, ◌≤◌}
 use native.Mathlib.Omega.{arith}
 use lib.Dec.{eqb}
 use lib.ListN.{length, get_or}
@@ -27,8 +26,8 @@ use Rattle.code.specs.Cells.{op_at}
 use Rattle.code.specs.Spans.{bias}
 use Rattle.check_names.specs.Meanings.{a_variable, a_constant, cell_with, type_with, ref_with, meaning_with, meaning_in}
 use Rattle.check_names.specs.Promises.{TypeNamed}
-use Rattle.layout.specs.Rules.{too_many}
-use Rattle.layout.specs.Types.{type_in, IsType}
+use Rattle.layout.specs.Types.{type_in}
+use Rattle.layout.specs.declared.types.ValueType.{ValueType}
 use Rattle.check_names.proofs.Tables.{meaning-with}
 use Rattle.store_numbers.proofs.Whole.{read}
 use Rattle.grammar.specs.Form.{Parses, ContentAt, no-content, initial, sized}
@@ -36,20 +35,21 @@ use Rattle.grammar.specs.Form as form
 use Rattle.faults.specs.First.{First}
 use Rattle.faults.specs.Added.{content_slots, content_faults}
 use Rattle.store_writing.proofs.Keeping.{kept_same}
-use Rattle.check_constants.specs.declared.Valued.{Valued}
-use Rattle.check_constants.specs.declared.Valued.TheVariants as values_of
+use Rattle.check_constants.specs.Sizing.{Valued}
 use Rattle.check_constants.specs.Answers.{InNum, Asks, Values, HeldAs}
 use Rattle.check_constants.specs.Answers as constants
 use Rattle.check_constants.proofs.Terms.{in-num-small}
 use Rattle.check_names.specs.declared.Scope.{Scope}
-use Rattle.check_names.specs.Scopes.{with_used, Grown, Stays}
+use Rattle.check_names.specs.Scopes.{with_used, Grown}
 use Rattle.check_names.proofs.Growing.{grown-by}
-use Rattle.check_names.specs.declared.Walked.{Walked}
-use Rattle.check_names.specs.declared.Walked.TheVariants.{Upto, Faulty}
+use Rattle.std.specs.Prelude.{Ok, Err}
+use Rattle.layout.specs.Broken.{as_fault}
+use Rattle.layout.specs.declared.rules.Breach.{Breach}
+use Rattle.layout.specs.declared.rules.Rule.TheVariants.{TooMany}
 use Rattle.check_sites.specs.Sites.{own_of, scopes_of, memory_of, Placed, owned}
-use Rattle.check_datum.specs.Answers.{Begins, Free, after, Goes, Says}
+use Rattle.check_datum.specs.Answers.{Begins, Free, Goes, Says}
 use Rattle.check_sites.specs.Parts.{MakesIn, Makes}
-use Rattle.check_datum.specs.Parts.{scalar_kind, Initial, Starts, FitValue, Fit, PlacedAs, Placing, DeclaresFree}
+use Rattle.check_datum.specs.Parts.{scalar_kind, Initial, Starts, DeclaresFree}
 use Rattle.check_constants.proofs.NumbersHeld.{in-num-32, in-num-64}
 use Rattle.check_sites.proofs.TwoSites.{own-here, among-new, load-new}
 use Rattle.check_datum.proofs.OneDeclaration.{asks_of, content_meaning, content-used, Around, name-keeps, words-changed, words-written, now-filled}
@@ -164,57 +164,29 @@ module _ {code values : List ℕ} {own limit used i : ℕ} (b : Begins code valu
         changed = words-changed b free mid code₂ code' values₂ values' kind used 1 word held v around made started;
       }
 
-says-fit : (d : Valued) (W : List Word) (t : DataType) (S : Scopes) (M : Memory) (e : Expr) (to : ℕ) → to < word_limit → constants.Says W t S M e to d → Fit d
-unfolding constants.Says Fit
-says-fit (values_of.Value v next) W t S M e to l h = record { ranged = h.ranged; near = omega (arith, h.next-is, l) }
-says-fit (values_of.Faulty number word) W t S M e to l h = tt
+-- a value is one of num, and the word after its expression is a word's index
+pub record FitValue (v : ℤ) (next : ℕ) : Type 0 where
+  pub ranged : InNum v
+  pub near : next < word_limit
 
--- ---- the value is placed
-fit-value : (c : Valued) (v : ℤ) (next : ℕ) → c ≡ values_of.Value v next → Fit c → FitValue v next
-unfolding Fit
-fit-value c v next q f = subst Fit q f
+says-value : (c : Valued) (v : ℤ) (next : ℕ) → c ≡ Ok (v, next) → (W : List Word) (t : DataType) (S : Scopes) (M : Memory) (e : Expr) (to : ℕ) → constants.Says W t S M e to c → constants.Says W t S M e to (Ok (v, next))
+says-value c v next q W t S M e to h = subst (constants.Says W t S M e to) q h
 
-pub fit-read : (c : Valued) (v : ℤ) (next : ℕ) → c ≡ values_of.Value v next → Fit c → InNum (read v)
-fit-read c v next q f = let h = (fit-value c v next q f).ranged in subst InNum (sym (to_z-of_z (in-num-64 v h))) h
+says-fit : (v : ℤ) (next : ℕ) (W : List Word) (t : DataType) (S : Scopes) (M : Memory) (e : Expr) (to : ℕ) → to < word_limit → constants.Says W t S M e to (Ok (v, next)) → FitValue v next
+unfolding constants.Says
+says-fit v next W t S M e to l h = record { ranged = h.ranged; near = omega (arith, h.next-is, l) }
 
-pub fit-adds : (c : Valued) (v : ℤ) (next : ℕ) → c ≡ values_of.Value v next → Fit c → Fits w64 (next + 1)
-fit-adds c v next q f = record { fits = omega (arith, (fit-value c v next q f).near) }
+pub fit-read : (v : ℤ) (next : ℕ) → FitValue v next → InNum (read v)
+fit-read v next f = subst InNum (sym (to_z-of_z (in-num-64 v f.ranged))) f.ranged
 
-fit_next : (c : Valued) (v : ℤ) (next : ℕ) → c ≡ values_of.Value v next → Fit c → next < word_limit
-fit_next c v next q f = (fit-value c v next q f).near
-
-module _ (code values code' values' : List ℕ) (own used kind i : ℕ) (c : Valued) where
-  pub placing-faulty : (number word : ℕ) → c ≡ values_of.Faulty number word → (scope : Scope) → Placing code values code values own used kind i c scope (Faulty number word)
-  unfolding PlacedAs
-  placing-faulty number word q scope = record { is = rw q (record { answer = refl; same_code = refl; same-values = refl }) }
-
-  pub placing-value : (v : ℤ) (next : ℕ) → c ≡ values_of.Value v next → Fit c → (mid-code mid-values : List ℕ) → Makes code values mid-code mid-values (i + 2) kind own used → (word held : ℕ) → word ≡ of_z w32 (read v)
-      → HeldAs (read v) held → Starts mid-code mid-values code' values' own used 1 word held i → (scope filled : Scope) → filled ≡ with_used (used + 1) scope
-      → Placing code values code' values' own used kind i c scope (Upto (next + 1) filled)
-  unfolding PlacedAs
-  placing-value v next q f mid-code mid-values made word held w h started scope filled e =
-      let y : read v ≡ v = to_z-of_z (in-num-64 v (fit-value c v next q f).ranged) in
-      record {
-        is = rw q (
-          record {
-            mid-code = mid-code;
-            mid-values = mid-values;
-            word = word;
-            held = held;
-            made = made;
-            word-is = w ∙ ap (of_z w32) y;
-            held-is = subst (λ (z : ℤ). HeldAs z held) y h;
-            started = started;
-          },
-          ap (Upto (next + 1)) e,
-        );
-      }
+pub fit-adds : (v : ℤ) (next : ℕ) → FitValue v next → Fits w64 (next + 1)
+fit-adds v next f = record { fits = omega (arith, f.near) }
 
 module _ {code values : List ℕ} {own limit used i : ℕ} (plain : op_at (cells_of code) (i + 3) ≡ open_brace → ⊥) where
   not-brace : (b : Begins code values own limit used i) → sort_in b.W (i + 3) ≡ open_brace → ⊥
   not-brace b e = plain (sort-is b 3 (omega arith) ∙ e)
 
-  pub scalar_crosses : limit ≤ used → DeclaresFree code values code values own limit used i (Faulty too_many (i + 2))
+  pub scalar_crosses : limit ≤ used → DeclaresFree code values code values own limit used i (Err (record { rule = TooMany; word = i + 2 }))
   unfolding Says
   scalar_crosses over = record {
     is = λ b free. too-many b free (omega (arith, over, content-one b.W (F b) (type b) b.D b.stands.content (not-brace b), b.used-is, b.limit_is));
@@ -222,10 +194,10 @@ module _ {code values : List ℕ} {own limit used i : ℕ} (plain : op_at (cells
 
   module _ (s3 : ℕ) (s3-is : s3 ≡ op_at (cells_of code) (i + 3)) (s0 : ℕ) (s0-is : s0 ≡ op_at (cells_of code) i) (kind : ℕ) (kind-is : kind ≡ scalar_kind s0) (fits : used < limit) where
     pub scalar-plain : (s3 ≡ becomes → ⊥) → (code₂ code' values₂ values' : List ℕ) → Makes code values code₂ values₂ (i + 2) kind own used → Starts code₂ values₂ code' values' own used 1 0 bias i
-        → (filled : Scope) → filled.used ≡ used + 1 → DeclaresFree code values code' values' own limit used i (Upto (i + 4) filled)
+        → (filled : Scope) → filled.used ≡ used + 1 → DeclaresFree code values code' values' own limit used i (Ok (i + 4, filled))
     unfolding Says
     scalar-plain none code₂ code' values₂ values' made started filled e = record {
-      is = λ b free. subst (λ (u : ℕ). Says b code' values' (Upto (i + 4) (with_used u filled))) (sym e) (
+      is = λ b free. subst (λ (u : ℕ). Says b code' values' (Ok (i + 4, with_used u filled))) (sym e) (
           let n = no_value b.W (F b) (type b) b.D b.stands.content (not-brace b) (λ e. none (s3-is ∙ sort-is b 3 (omega arith) ∙ e)) in
           scalar-done b free kind (kind-is ∙ ap scalar_kind (s0-is ∙ opens-is b)) (pos 0) (in-num-small 0 (omega arith)) n.words_are n.faults-are n.means-are fits
           code code₂ code' values₂ values' 0 bias (i + 4) (around-kept code code i (i + 3) (i + 3) b.to (omega arith) (omega (arith, far b)) (kept_same code (i + 3) (i + 3))) made started
@@ -238,10 +210,6 @@ initial-low code limit used kind i n = kind-low kind (op_at (cells_of code) i) n
 
 pub initial-room : (code : List ℕ) (limit used kind i : ℕ) → Initial code limit used kind i → limit ≤ module_word_limit → used < module_word_limit
 initial-room code limit used kind i n h = omega (arith, n.fits)
-
--- the type's number that stands before its name
-pub initial-type : (s wants : ℕ) → TypeNamed s wants → IsType wants
-initial-type s wants named = record { type = type_of s; is = named.is }
 
 module _ {code values : List ℕ} {own limit used kind i : ℕ} (n : Initial code limit used kind i) where
   module _ (b : Begins code values own limit used i) where
@@ -263,37 +231,45 @@ module _ {code values : List ℕ} {own limit used kind i : ℕ} (n : Initial cod
   pub initial-asks : Begins code values own limit used i → Asks code values (i + 4)
   initial-asks b = value-asks b
 
-  module _ (s1 : ℕ) (s1-is : s1 ≡ op_at (cells_of code) (i + 1)) (wants : ℕ) (named : TypeNamed s1 wants) where
-    wants-type : (b : Begins code values own limit used i) → type_in wants ≡ some (type b)
-    wants-type b = named.is ∙ ap (λ (s : ℕ). some (type_of s)) (s1-is ∙ sort-is b 1 (omega arith) ∙ sym b.stands.type)
+  module _ (s1 : ℕ) (s1-is : s1 ≡ op_at (cells_of code) (i + 1)) (wants : ValueType) (named : TypeNamed s1 wants) where
+    wants-type : (b : Begins code values own limit used i) → type_in wants ≡ type b
+    wants-type b = named.is ∙ ap type_of (s1-is ∙ sort-is b 1 (omega arith) ∙ sym b.stands.type)
 
     module _ (mid : List ℕ) (c : Valued) (o : Values code values mid wants (i + 4) c) where
       says_here : (b : Begins code values own limit used i) → constants.Says b.W (type b) (scopes_of b.W b.s b.D) (memory_of b.W b.s b.D) (value b).e b.stands.end c
       says_here b = o.says (value-asks b) (type b) (wants-type b)
 
-      pub initial-fit : Begins code values own limit used i → Fit c
-      initial-fit b =
-          let l = b.loaded.last in
-          says-fit c b.W (type b) (scopes_of b.W b.s b.D) (memory_of b.W b.s b.D) (value b).e b.stands.end (omega (arith, l, b.stands.after)) (says_here b)
+      pub initial-faulty : (broken : Breach) → c ≡ Err broken → DeclaresFree code values mid values own limit used i (Err broken)
+      unfolding Says constants.Says
+      initial-faulty broken q = record {
+        is = λ b free.
+            let h = subst (constants.Says b.W (type b) (scopes_of b.W b.s b.D) (memory_of b.W b.s b.D) (value b).e b.stands.end) q (says_here b) in
+            in-content b (as_fault broken) free (omega (arith, n.fits, ap length (value b).words_are, b.used-is, b.limit_is))
+            (subst (First (as_fault broken)) (sym (value b).faults-are) h);
+      }
 
-      module _ (code' values' : List ℕ) (b : Begins code values own limit used i) (free : Free b) where
-        by_answer : (d : Valued) (scope : Scope) (r : Walked) → constants.Says b.W (type b) (scopes_of b.W b.s b.D) (memory_of b.W b.s b.D) (value b).e b.stands.end d
-            → PlacedAs mid values code' values' own used kind i d scope r → Says b code' values' r
-        unfolding Says constants.Says PlacedAs
-        by_answer (values_of.Faulty number word) scope r h p =
-            subst (Says b code' values') (sym p.answer)
-            (in-content b (record { number = number; at = word }) free (omega (arith, n.fits, ap length (value b).words_are, b.used-is, b.limit_is))
-            (subst (First (record { number = number; at = word })) (sym (value b).faults-are) h))
-        by_answer (values_of.Value v next) scope r h p =
-            let g = p.0 in
-            subst (Says b code' values') (sym p.1)
-            (scalar-done b free kind (n.kind-is ∙ ap scalar_kind (opens-is b)) v h.ranged ((value b).words_are ∙ ap (λ (z : ℤ). z ∷ []) (sym h.is)) ((value b).faults-are ∙ h.none) (value b).means-are n.fits
-            mid g.mid-code code' g.mid-values values' g.word g.held (next + 1)
-            (around-kept code mid i (i + 4) b.stands.end b.to (omega arith) (omega (arith, b.stands.after)) (o.kept (value-asks b))) g.made g.started
-            (ap (to_z w32) g.word-is ∙ to_z-of_z (in-num-32 v h.ranged)) g.held-is.is (omega (arith, h.next-is, b.stands.after)))
+      module _ (v : ℤ) (next : ℕ) (q : c ≡ Ok (v, next)) where
+        says-now : (b : Begins code values own limit used i) → constants.Says b.W (type b) (scopes_of b.W b.s b.D) (memory_of b.W b.s b.D) (value b).e b.stands.end (Ok (v, next))
+        says-now b = says-value c v next q b.W (type b) (scopes_of b.W b.s b.D) (memory_of b.W b.s b.D) (value b).e b.stands.end (says_here b)
 
-      pub initial-goes : (code' values' : List ℕ) (scope : Scope) (r : Walked) → Placing mid values code' values' own used kind i c scope r → DeclaresFree code values code' values' own limit used i r
-      initial-goes code' values' scope r p = record { is = λ b free. by_answer code' values' b free c scope r (says_here b) p.is }
+        pub initial-fit : Begins code values own limit used i → FitValue v next
+        initial-fit b =
+            let l = b.loaded.last in
+            says-fit v next b.W (type b) (scopes_of b.W b.s b.D) (memory_of b.W b.s b.D) (value b).e b.stands.end (omega (arith, l, b.stands.after)) (says-now b)
+
+        pub initial-goes : (mid-code mid-values code' values' : List ℕ) → Makes mid values mid-code mid-values (i + 2) kind own used → (word held : ℕ) → word ≡ of_z w32 (read v) → HeldAs (read v) held
+            → Starts mid-code mid-values code' values' own used 1 word held i → (filled : Scope) → filled.used ≡ used + 1 → DeclaresFree code values code' values' own limit used i (Ok (next + 1, filled))
+        unfolding Says constants.Says
+        initial-goes mid-code mid-values code' values' made word held w g started filled e = record {
+          is = λ b free. subst (λ (u : ℕ). Says b code' values' (Ok (next + 1, with_used u filled))) (sym e) (
+              let h = says-now b in
+              let y : read v ≡ v = to_z-of_z (in-num-64 v h.ranged) in
+              let as-held : HeldAs v held = subst (λ (z : ℤ). HeldAs z held) y g in
+              scalar-done b free kind (n.kind-is ∙ ap scalar_kind (opens-is b)) v h.ranged ((value b).words_are ∙ ap (λ (z : ℤ). z ∷ []) (sym h.is)) ((value b).faults-are ∙ h.none) (value b).means-are n.fits
+              mid mid-code code' mid-values values' word held (next + 1)
+              (around-kept code mid i (i + 4) b.stands.end b.to (omega arith) (omega (arith, b.stands.after)) (o.kept (value-asks b))) made started
+              (ap (to_z w32) (w ∙ ap (of_z w32) y) ∙ to_z-of_z (in-num-32 v h.ranged)) as-held.is (omega (arith, h.next-is, b.stands.after)));
+        }
 
 -- ---- the scope that is handed back
 module _ {scope filled : Scope} {code values code' values' : List ℕ} {i kind own value words : ℕ} (m : MakesIn scope code values code' values' i kind own value words filled) where
@@ -302,11 +278,3 @@ module _ {scope filled : Scope} {code values code' values' : List ℕ} {i kind o
 
   pub made-grown : Grown scope filled
   made-grown = grown-by scope filled words m.scope-is
-
-pub placing-stays : (code values code' values' : List ℕ) (own kind i : ℕ) (c : Valued) (scope : Scope) (r : Walked) → Placing code values code' values' own scope.used kind i c scope r → Stays scope r
-unfolding PlacedAs
-placing-stays code values code' values' own kind i c scope r p = by_answer c p.is
-  where
-    by_answer : (d : Valued) → PlacedAs code values code' values' own scope.used kind i d scope r → Stays scope r
-    by_answer (values_of.Value v next) q = subst (Stays scope) (sym q.1) (grown-by scope _ 1 refl)
-    by_answer (values_of.Faulty number word) q = subst (Stays scope) (sym q.answer) tt

@@ -1,5 +1,6 @@
 -- What one declaration of data promises, and what it asks of the two stores.
-use Rattle.std.specs.Prelude.{◌≡◌, false, List, [], ◌++◌, map, ℕ, ◌+◌, ◌*◌, ◌<◌, ◌≤◌, length, replicate}
+use Rattle.layout.specs.Broken.{as_fault}
+use Rattle.std.specs.Prelude.{◌≡◌, false, List, [], ◌++◌, map, ℕ, ◌+◌, ◌*◌, ◌<◌, ◌≤◌, length, replicate, Ok, Err}
 use Rattle.paper.specs.Words.{Word, word_limit}
 use Rattle.paper.specs.Trees.{Declared}
 use Rattle.paper.specs.Names.{type_of, text_of, sort_in, spelled, cannot_declare}
@@ -13,10 +14,8 @@ use Rattle.grammar.specs.Form.{Parses, DeclaredAt}
 use Rattle.faults.specs.First.{First}
 use Rattle.faults.specs.Added.{declared_faults}
 use Rattle.check_expressions.specs.Known.{Loaded}
-use Rattle.check_names.specs.declared.Walked.{Walked}
-use Rattle.check_names.specs.declared.Walked.TheVariants.{Upto, Faulty}
+use Rattle.check_names.specs.Scopes.{Walked}
 use Rattle.check_sites.specs.Sites.{Site, filling, own_of, Filled}
-use Rattle.check_names.specs.Promises as names
 use Rattle.check_sites.specs.Walks.{KeepsName, Changed}
 
 -- ---- one declaration
@@ -62,8 +61,8 @@ pub record Goes {code values : List ℕ} {own limit used i : ℕ} (b : Begins co
   pub changed : Changed (cells_of code) (cells_of code') i b.to
 
 unfoldable pub Says : {code values : List ℕ} {own limit used i : ℕ} (b : Begins code values own limit used i) (code' values' : List ℕ) → Walked → Type 0
-Says b code' values' (Upto next scope) = Goes b code' values' next scope.used
-Says b code' values' (Faulty number word) = First (record { number = number; at = word }) (faults_of b)
+Says b code' values' (Ok (next, scope)) = Goes b code' values' next scope.used
+Says b code' values' (Err broken) = First (as_fault broken) (faults_of b)
 
 pub record Declares (code values code' values' : List ℕ) (own limit used i : ℕ) (r : Walked) : Type 0 where
   pub is : (b : Begins code values own limit used i) → Says b code' values' r

@@ -4,9 +4,7 @@ use mathlib.Core.Bool.{true, Bool, false}
 use mathlib.Core.List.{List, []}
 use Prim.Native.Nat.{ℕ, ◌+◌, ◌-◌, ◌*◌, ◌<◌, ◌≤◌}
 use native.Mathlib.Omega.{arith}
-use lib.Dec.{eqb}
 use lib.ListN.{length, get_or}
-use borrow.Author.Tests.{ne_eqb}
 use Rattle.paper.specs.Expressions.{starts_data}
 use Rattle.store_cells.specs.Cells.{cells_of}
 use Rattle.code.specs.Cells.{op_at}
@@ -25,8 +23,10 @@ use Rattle.faults.proofs.Expressions.{grows}
 use Rattle.faults.proofs.Declarations.{data-on, data-found}
 use Rattle.check_expressions.specs.Known.{Loaded}
 use Rattle.check_expressions.proofs.Starts.{loaded-part}
-use Rattle.check_names.specs.declared.Walked.{Walked}
-use Rattle.check_names.specs.declared.Walked.TheVariants.{Upto, Faulty}
+use Rattle.check_names.specs.Scopes.{Walked}
+use Rattle.std.specs.Prelude.{Ok, Err}
+use Rattle.layout.specs.Broken.{as_fault}
+use Rattle.layout.specs.declared.rules.Breach.{Breach}
 use Rattle.check_sites.specs.Sites.{Site, the_module, filling, own_of, Filled}
 use Rattle.check_datum.specs.Answers.{Begins, after, faults_of, Goes, Says, Declares, Near}
 use Rattle.check_declarations.specs.Answers.{DataStand, SaysModule, DeclaresModule}
@@ -123,14 +123,14 @@ module _ {W : List Word} {routine : ℕ → ℕ} {s : Site} {D₀ : Data} {ds : 
     pub done-rest : w.rest ≡ []
     done-rest = (repeated-none (sort_in W) (DeclaredAt (sort_in W) (Parses (sort_in W))) w.stand stops).0
 
-pub says-goes : {code values : List ℕ} {own limit used i : ℕ} (b : Begins code values own limit used i) (code' values' : List ℕ) (r : Walked) (next : ℕ) (scope : Scope) → r ≡ Upto next scope → Says b code' values' r → Goes b code' values' next scope.used
+pub says-goes : {code values : List ℕ} {own limit used i : ℕ} (b : Begins code values own limit used i) (code' values' : List ℕ) (r : Walked) (n : ℕ) (scope : Scope) → r ≡ Ok (n, scope) → Says b code' values' r → Goes b code' values' n scope.used
 unfolding Says
-says-goes b code' values' r next scope q h = subst (Says b code' values') q h
+says-goes b code' values' r n scope q h = subst (Says b code' values') q h
 
-pub says-faulty : {code values : List ℕ} {own limit used i : ℕ} (b : Begins code values own limit used i) (code' values' : List ℕ) (r : Walked) (number word : ℕ) → r ≡ Faulty number word → Says b code' values' r
-    → First (record { number = number; at = word }) (faults_of b)
+pub says-faulty : {code values : List ℕ} {own limit used i : ℕ} (b : Begins code values own limit used i) (code' values' : List ℕ) (r : Walked) (broken : Breach) → r ≡ Err broken → Says b code' values' r
+    → First (as_fault broken) (faults_of b)
 unfolding Says
-says-faulty b code' values' r number word q h = subst (Says b code' values') q h
+says-faulty b code' values' r broken q h = subst (Says b code' values') q h
 
 -- ---- the module's data
 pub record ModuleWalk (code₀ values₀ : List ℕ) (at : ℕ) (code values : List ℕ) (i used : ℕ) : Type 0 where
@@ -184,13 +184,13 @@ module _ (code₀ values₀ : List ℕ) (at : ℕ) (code values : List ℕ) (i u
       module-near b = near (begins b)
 
       module _ (code' values' : List ℕ) (r : Walked) (d : Declares code values code' values' 0 module_word_limit used i r) where
-        pub module-faulty : (number word : ℕ) → r ≡ Faulty number word → DeclaresModule code₀ values₀ code' values' at r
+        pub module-faulty : (broken : Breach) → r ≡ Err broken → DeclaresModule code₀ values₀ code' values' at (Err broken)
         unfolding SaysModule
-        module-faulty number word q = subst (DeclaresModule code₀ values₀ code' values' at) (sym q) (record {
-          is = λ b. walk-found (m.walks b) (starts_is b ∙ yes) (own-here b) (limit-here b) (record { number = number; at = word }) (says-faulty (begins b) code' values' r number word q (d.is (begins b)));
-        })
+        module-faulty broken q = record {
+          is = λ b. walk-found (m.walks b) (starts_is b ∙ yes) (own-here b) (limit-here b) (as_fault broken) (says-faulty (begins b) code' values' r broken q (d.is (begins b)));
+        }
 
-        module _ (next : ℕ) (scope : Scope) (q : r ≡ Upto next scope) where
+        module _ (next : ℕ) (scope : Scope) (q : r ≡ Ok (next, scope)) where
           abbrev used' : ℕ
           used' = scope.used
 
@@ -219,7 +219,7 @@ module _ (code₀ values₀ : List ℕ) (at : ℕ) (code values : List ℕ) (i u
             above = λ k h. (goes b₀).changed.above k (omega (arith, (goes b₀).next-is)) ∙ m.above k (omega (arith, (module-less b₀).0));
           }
 
-    pub module-done : t ≡ false → (scope : Scope) → scope.used ≡ used → DeclaresModule code₀ values₀ code values at (Upto i scope)
+    pub module-done : t ≡ false → (scope : Scope) → scope.used ≡ used → DeclaresModule code₀ values₀ code values at (Ok (i, scope))
     unfolding SaysModule
     module-done ended scope u = record {
       is = λ b.

@@ -17,8 +17,10 @@ use Rattle.code.specs.Cells.{op_in, place_in, op_at, value_at, place_at, link_at
 use Rattle.code.specs.Spans.{bias}
 use Rattle.code.specs.Steps.{constant_at}
 use Rattle.check_names.specs.declared.Scope.{Scope}
-use Rattle.check_names.specs.declared.Walked.{Walked}
-use Rattle.check_names.specs.declared.Walked.TheVariants.{Upto, Faulty}
+use Rattle.check_names.specs.Scopes.{Walked}
+use Rattle.std.specs.Prelude.{Ok, Err}
+use Rattle.layout.specs.Broken.{as_fault}
+use Rattle.layout.specs.declared.rules.Breach.{Breach}
 use Rattle.check_sites.specs.Sites.{a_routine, filling, Filled}
 use Rattle.store_writing.specs.Chains.{Leads, last_of, starts_in, Rise}
 use Rattle.check_sites.specs.Walks.{outer_of, KeepsName, KeepsAll, name_of}
@@ -241,13 +243,13 @@ module _ (code₀ values₀ : List ℕ) (head used₀ at : ℕ) (code values : L
       routine-near b = near (begins b)
 
       module _ (mid values' : List ℕ) (r : Walked) (d : Declares code values mid values' 1 routine_word_limit used i r) where
-        pub routine-faulty : (opens number word : ℕ) → r ≡ Faulty number word → DeclaresRoutine code₀ values₀ mid values' opens head used₀ at r
+        pub routine-faulty : (opens : ℕ) (broken : Breach) → r ≡ Err broken → DeclaresRoutine code₀ values₀ mid values' opens head used₀ at (Err broken)
         unfolding SaysRoutine
-        routine-faulty opens number word q = subst (DeclaresRoutine code₀ values₀ mid values' opens head used₀ at) (sym q) (record {
-          is = λ b. walk-found (m.chained b).walk (starts_is b ∙ yes) (own-routine b.m) (limit-routine b.W b.m) (record { number = number; at = word }) (says-faulty (begins b) mid values' r number word q (d.is (begins b)));
-        })
+        routine-faulty opens broken q = record {
+          is = λ b. walk-found (m.chained b).walk (starts_is b ∙ yes) (own-routine b.m) (limit-routine b.W b.m) (as_fault broken) (says-faulty (begins b) mid values' r broken q (d.is (begins b)));
+        }
 
-        module _ (n : ℕ) (scope : Scope) (q : r ≡ Upto n scope) where
+        module _ (n : ℕ) (scope : Scope) (q : r ≡ Ok (n, scope)) where
           abbrev used' : ℕ
           used' = scope.used
 
@@ -274,7 +276,7 @@ module _ (code₀ values₀ : List ℕ) (head used₀ at : ℕ) (code values : L
             last-before = (routine-less b₀).0;
           }
 
-    pub routine-done : t ≡ false → (code' : List ℕ) (opens : ℕ) → Relinked code code' last opens → (scope : Scope) → scope.used ≡ used → DeclaresRoutine code₀ values₀ code' values opens head used₀ at (Upto i scope)
+    pub routine-done : t ≡ false → (code' : List ℕ) (opens : ℕ) → Relinked code code' last opens → (scope : Scope) → scope.used ≡ used → DeclaresRoutine code₀ values₀ code' values opens head used₀ at (Ok (i, scope))
     unfolding SaysRoutine
     routine-done stops code' opens s scope u = record {
       is = λ b. subst (RoutineFilled b code' values opens i) (sym u) (chain-done b (m.chained b) m.begun m.last-new m.last-before (starts_is b ∙ stops) code' opens s);

@@ -1,5 +1,6 @@
 -- What walks over the data of the module and of a routine promise, and what they ask of the two stores.
-use Rattle.std.specs.Prelude.{◌≡◌, false, List, [], ◌++◌, map, ℕ, ◌+◌, ◌-◌, ◌*◌, ◌<◌, ◌≤◌, length, get_or}
+use Rattle.layout.specs.Broken.{as_fault}
+use Rattle.std.specs.Prelude.{◌≡◌, false, List, [], ◌++◌, map, ℕ, ◌+◌, ◌-◌, ◌*◌, ◌<◌, ◌≤◌, length, get_or, Ok, Err}
 use Rattle.paper.specs.Words.{Word}
 use Rattle.paper.specs.Trees.{Declared, Module}
 use Rattle.paper.specs.Names.{Text, Names, text_of, sort_in, spelled, is_among}
@@ -10,8 +11,7 @@ use Rattle.grammar.specs.Form.{Parses, DeclarationsAt}
 use Rattle.faults.specs.First.{First}
 use Rattle.faults.specs.Added.{data_faults}
 use Rattle.check_expressions.specs.Known.{Loaded}
-use Rattle.check_names.specs.declared.Walked.{Walked}
-use Rattle.check_names.specs.declared.Walked.TheVariants.{Upto, Faulty}
+use Rattle.check_names.specs.Scopes.{Walked}
 use Rattle.check_sites.specs.Sites.{the_module, a_routine, filling, Filled}
 use Rattle.store_writing.specs.Chains.{Chain, starts_in, Rise}
 use Rattle.check_sites.specs.Walks.{Changed, name_of, KeepsAll}
@@ -35,9 +35,9 @@ pub record ModuleFilled {code values : List ℕ} {at : ℕ} (b : DataStand code 
   pub changed : Changed (cells_of code) (cells_of code') at b.to
 
 unfoldable pub SaysModule : {code values : List ℕ} {at : ℕ} (b : DataStand code values at) (code' values' : List ℕ) → Walked → Type 0
-SaysModule b code' values' (Upto next scope) = ModuleFilled b code' values' next scope.used
-SaysModule b code' values' (Faulty number word) =
-    First (record { number = number; at = word }) (data_faults b.W (filling b.W (the_module b.routines)) b.ds no_data)
+SaysModule b code' values' (Ok (next, scope)) = ModuleFilled b code' values' next scope.used
+SaysModule b code' values' (Err broken) =
+    First (as_fault broken) (data_faults b.W (filling b.W (the_module b.routines)) b.ds no_data)
 
 pub record DeclaresModule (code values code' values' : List ℕ) (at : ℕ) (r : Walked) : Type 0 where
   pub is : (b : DataStand code values at) → SaysModule b code' values' r
@@ -84,9 +84,9 @@ pub record RoutineFilled {code values : List ℕ} {head used at : ℕ} (b : Rout
   pub above : (k : ℕ) → b.to * 2 ≤ k → get_or (cells_of code') k 0 ≡ get_or (cells_of code) k 0
 
 unfoldable pub SaysRoutine : {code values : List ℕ} {head used at : ℕ} (b : RoutineStands code values head used at) (code' values' : List ℕ) (opens : ℕ) → Walked → Type 0
-SaysRoutine b code' values' opens (Upto next scope) = RoutineFilled b code' values' opens next scope.used
-SaysRoutine b code' values' opens (Faulty number word) =
-    First (record { number = number; at = word }) (data_faults b.W (filling b.W (a_routine b.m)) b.ds b.D)
+SaysRoutine b code' values' opens (Ok (next, scope)) = RoutineFilled b code' values' opens next scope.used
+SaysRoutine b code' values' opens (Err broken) =
+    First (as_fault broken) (data_faults b.W (filling b.W (a_routine b.m)) b.ds b.D)
 
 pub record DeclaresRoutine (code values code' values' : List ℕ) (opens head used at : ℕ) (r : Walked) : Type 0 where
   pub is : (b : RoutineStands code values head used at) → SaysRoutine b code' values' opens r

@@ -1,4 +1,5 @@
 // Declarations: what the data of the module, and of a routine, make known.
+// Both stores are lent one by one: check_statements says why.
 #![tactic(auto)]
 
 ghost use Rattle.std.specs.Prelude.{◌≡◌, ◌<◌};
@@ -8,14 +9,23 @@ ghost use Rattle.check_declarations.specs.Answers.{DataStand, DeclaresModule, Ro
 
 use check_datum::datum;
 use check_names::{Scope, Walked};
+use check_sites::Site;
 use layout::limits;
 use store_writing::{set_link, sort};
 use text_sorts::starts_data;
 
-// own of the module's data
-const OF_MODULE: u32 = 0;
+// The sites of the module's data, and of a routine's.
+const MODULE: Site = Site {
+    own: 0,
+    limit: limits::MODULE_COUNT,
+};
 
-// The module's data, in a scope that has none yet.
+const ROUTINE: Site = Site {
+    own: check_names::OF_ROUTINE,
+    limit: limits::ROUTINE_COUNT,
+};
+
+// The module's data, in a scope that has none yet. Where the next declaration begins is what the walk over this one answers.
 pub fn module_data(before: Scope, code: &mut [u8], values: &mut [u8], at: usize) -> Walked
     requires { DataStand code.old values.old at × (before.used ≡ 0) }
     ensures { DeclaresModule code.old values.old code.new values.new at result × Stays before result }
@@ -23,14 +33,11 @@ pub fn module_data(before: Scope, code: &mut [u8], values: &mut [u8], at: usize)
     let mut i = at;
     let mut scope = before;
     while starts_data(sort(code, i)) {
-        let d = datum(scope, code, values, OF_MODULE, limits::MODULE_COUNT, i);
-        let Walked::Upto(next, more) = d else {
-            return d;
-        };
+        let (next, more) = datum(scope, code, values, MODULE, i)?;
         i = next;
         scope = more;
     }
-    Walked::Upto(i, scope)
+    Ok((i, scope))
 }
 
 // A routine's data. The word that leads to its scope's data leads to the first of them by its link, and each to the next; the parenthesis at `opens` ends them.
@@ -48,22 +55,12 @@ pub fn routine_data(
     let mut scope = before;
     let mut last = before.head;
     while starts_data(sort(code, i)) {
-        let d = datum(
-            scope,
-            code,
-            values,
-            check_names::OF_ROUTINE,
-            limits::ROUTINE_COUNT,
-            i,
-        );
-        let Walked::Upto(next, more) = d else {
-            return d;
-        };
+        let (next, more) = datum(scope, code, values, ROUTINE, i)?;
         set_link(code, last, i);
         last = i;
         i = next;
         scope = more;
     }
     set_link(code, last, opens);
-    Walked::Upto(i, scope)
+    Ok((i, scope))
 }

@@ -11,10 +11,13 @@ use Rattle.paper.specs.Names.{DataType, sort_in}
 use Rattle.paper.specs.Types.{least, wanted, judge}
 use Rattle.store_cells.specs.Cells.{cells_of}
 use Rattle.layout.specs.Types.{type_in}
+use Rattle.layout.specs.declared.types.ValueType.{ValueType}
 use Rattle.climb.proofs.Operands.{deeper}
 use Rattle.climb.proofs.Places.{stands}
-use Rattle.check_expressions.specs.declared.Judged.{Judged}
-use Rattle.check_expressions.specs.declared.Judged.TheVariants.{Typed, Faulty}
+use Rattle.check_expressions.specs.Judgements.{Judged}
+use Rattle.std.specs.Prelude.{Ok, Err}
+use Rattle.layout.specs.Broken.{as_fault}
+use Rattle.layout.specs.declared.rules.Breach.{Breach}
 use Rattle.check_expressions.specs.Known.{Loaded, Known}
 use Rattle.check_expressions.specs.Answers.{Sound, Stands, Checked, of_type, OfType}
 use Rattle.check_expressions.proofs.Order.{Rising, rising-least, rising-wanted, least-is}
@@ -37,22 +40,22 @@ expr-stands code values known d at to e deep h none l = record {
 
 module _ (code values after : List ℕ) (only : Bool) (at : ℕ) (r : Judged) where
   module _ (top : ℕ) (s : Stands code values top at) (c : Checked code values after only top at r) where
-    pub checked-typed : (type next : ℕ) → r ≡ Typed type next → Sound s.known.m s.known.n (cells_of after) at s.to (judge s.known.W only s.known.S s.e) type next
+    pub checked-typed : (type : ValueType) (next : ℕ) → r ≡ Ok (type, next) → Sound s.known.m s.known.n (cells_of after) at s.to (judge s.known.W only s.known.S s.e) type next
     checked-typed type next e = says_typed _ _ _ _ _ _ r type next e (c.is s).says
 
     -- the fault that is answered is the least
-    pub checked-faulty : (number word : ℕ) → r ≡ Faulty number word → least (judge s.known.W only s.known.S s.e).faults ≡ some (record { number = number; at = word })
-    checked-faulty number word e =
-        least-is s.known.W only s.known.S s.d top at s.to s.e number word s.is (says-faulty _ _ _ _ _ _ r number word e (c.is s).says)
+    pub checked-faulty : (broken : Breach) → r ≡ Err broken → least (judge s.known.W only s.known.S s.e).faults ≡ some (as_fault broken)
+    checked-faulty broken e =
+        least-is s.known.W only s.known.S s.d top at s.to s.e broken s.is (says-faulty _ _ _ _ _ _ r broken e (c.is s).says)
 
-  module _ (wants : ℕ) (t : DataType) (w : type_in wants ≡ some t) (s : Stands code values disjunctions at) (c : OfType code values after only wants at r) where
-    pub of-type-typed : (type next : ℕ) → r ≡ Typed type next
+  module _ (wants : ValueType) (t : DataType) (w : type_in wants ≡ t) (s : Stands code values disjunctions at) (c : OfType code values after only wants at r) where
+    pub of-type-typed : (type : ValueType) (next : ℕ) → r ≡ Ok (type, next)
         → Sound s.known.m s.known.n (cells_of after) at s.to (of_type t (first s.e) (judge s.known.W only s.known.S s.e)) type next
     of-type-typed type next e = says_typed _ _ _ _ _ _ r type next e (c.is s t w).says
 
-    pub of-type-faulty : (number word : ℕ) → r ≡ Faulty number word
-        → least (wanted t (first s.e) (judge s.known.W only s.known.S s.e)) ≡ some (record { number = number; at = word })
-    of-type-faulty number word e =
-        let f = says-faulty _ _ _ _ _ _ r number word e (c.is s t w).says in
+    pub of-type-faulty : (broken : Breach) → r ≡ Err broken
+        → least (wanted t (first s.e) (judge s.known.W only s.known.S s.e)) ≡ some (as_fault broken)
+    of-type-faulty broken e =
+        let f = says-faulty _ _ _ _ _ _ r broken e (c.is s t w).says in
         let q = rising-wanted s.known.W only s.known.S t s.e at s.to (stands (sort_in s.known.W) s.d disjunctions at (s.e, s.to) s.is) in
-        ap least f.faults-are ∙ rising-least at s.to (record { number = number; at = word }) f.others (subst (Rising at s.to) f.faults-are q)
+        ap least f.faults-are ∙ rising-least at s.to (as_fault broken) f.others (subst (Rising at s.to) f.faults-are q)

@@ -1,14 +1,13 @@
 -- What the paper judges, by the faults of the parts.
 use mathlib.Core.Path.{◌≡◌, refl, sym, ap, ap₂, ◌∙◌}
-use mathlib.Core.Bool.{Bool, true, false, ◌||◌}
-use mathlib.Core.List.{List, [], ◌∷◌, ◌++◌, append_assoc}
-use mathlib.Core.Option.{Option, none, some}
-use Prim.Native.Nat.{ℕ, ◌+◌, ◌<◌, ◌≤◌}
+use mathlib.Core.Bool.{true, false, ◌||◌}
+use mathlib.Core.List.{List, [], ◌∷◌, ◌++◌}
+use mathlib.Core.Option.{some}
+use Prim.Native.Nat.{ℕ}
 use native.Mathlib.Omega.{arith}
 use lib.Dec.{eqb, leb}
-use borrow.Author.Tests.{eqb-true, eqb-false, leb-true, leb-false, le-leb, lt-leb, eq-eqb, ne_eqb}
-use Rattle.laws.proofs.Tests.{test, apart, false-true}
-use Rattle.std.specs.Prelude.{if◌then◌else◌}
+use borrow.Author.Tests.{eqb-true, eqb-false, leb-true, leb-false, le-leb, lt-leb}
+use Rattle.laws.proofs.Tests.{test, false-true}
 use Rattle.paper.specs.Sorts.{NOT, equal, unequal}
 use Rattle.paper.specs.Terms.{Ref, Term, element_at, unary, binary}
 use Rattle.paper.specs.Trees.{Expr, first}
@@ -19,7 +18,7 @@ use Rattle.paper.specs.Types as types
 use Rattle.layout.specs.Rules.{wrong_type}
 use Rattle.layout.specs.Types.{type_in}
 use Rattle.layout.proofs.Typing.{types-differ}
-use Rattle.check_expressions.specs.Answers.{Refused}
+use Rattle.layout.specs.declared.types.ValueType.{ValueType}
 use Rattle.check_expressions.specs.Parts.{asked_of, result_of, signed_of}
 
 -- ---- pieces
@@ -62,9 +61,9 @@ module _ (t : DataType) (i : ℕ) (j : types.Judged) where
   wanted-none n e = wanted-same e ∙ n
 
   -- it has another type
-  pub wanted-wrong : (type wants : ℕ) → type_in wants ≡ some t → type_in type ≡ some j.type → (type ≡ wants → ⊥) → j.faults ≡ [] → wanted t i j ≡ fault wrong_type i
+  pub wanted-wrong : (type wants : ValueType) → type_in wants ≡ t → type_in type ≡ j.type → (type ≡ wants → ⊥) → j.faults ≡ [] → wanted t i j ≡ fault wrong_type i
   unfolding wanted fault_if
-  wanted-wrong type wants e g d n = rw (n, types-differ wants type t j.type e g (λ q. d (sym q)), wanted)
+  wanted-wrong type wants e g d n = rw (n, ap₂ differs (sym e) (sym g) ∙ types-differ wants type (λ q. d (sym q)), wanted)
 
   pub wanted-first : (f : Fault) (r : List Fault) → j.faults ≡ f ∷ r → wanted t i j ≡ f ∷ (r ++ fault_if (differs t j.type) wrong_type i)
   unfolding wanted

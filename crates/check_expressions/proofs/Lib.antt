@@ -3,6 +3,7 @@ pub mod NamesHeld
 pub mod FaultsOfParts
 pub mod Order
 pub mod Operators
+pub mod TypesCompared
 pub mod Leaves
 pub mod Around
 pub mod Starts

@@ -1,5 +1,5 @@
 -- Expressions have no steps among their words.
-use mathlib.Core.Path.{◌≡◌, sym, subst}
+use mathlib.Core.Path.{sym, subst}
 use mathlib.Core.List.{List}
 use Prim.Native.Nat.{ℕ, ◌+◌, ◌<◌}
 use Rattle.laws.proofs.Tests.{by-same}

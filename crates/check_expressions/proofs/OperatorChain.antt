@@ -1,8 +1,9 @@
 -- The operators of an expression, one after the other: what has been read so far, and what is left of it.
 use mathlib.Core.Path.{◌≡◌, refl, sym, ap, subst, ◌∙◌}
-use mathlib.Core.Bool.{Bool, true, false}
+use mathlib.Core.Bool.{Bool}
 use mathlib.Core.List.{List, [], ◌∷◌, ◌++◌}
 use mathlib.Core.Option.{some}
+use mathlib.Core.Logic.{◌⊎◌, inl, inr}
 use Prim.Native.Nat.{ℕ, suc, ◌+◌, ◌-◌, ◌*◌, ◌<◌, ◌≤◌}
 use native.Mathlib.Omega.{arith}
 use lib.Dec.{eqb}
@@ -23,15 +24,18 @@ use Rattle.code.specs.Cells.{op_at}
 use Rattle.code.specs.Spans.{term_within}
 use Rattle.layout.specs.Rules.{wrong_type}
 use Rattle.layout.specs.Types.{type_in}
-use Rattle.layout.proofs.Typing.{same-types}
+use Rattle.layout.specs.declared.types.ValueType.{ValueType}
 use Rattle.climb.specs.Rise.{rise, next, lowest}
 use Rattle.climb.specs.Places.{Spans}
 use Rattle.climb.proofs.Climb.{rise-stop, Joins, rise-join, Begun, begun}
 use Rattle.climb.proofs.Operands.{got_same}
 use Rattle.climb.proofs.Places.{spans-grow, spans-first, stands, begins, rises, rise-keeps}
-use Rattle.check_expressions.specs.declared.Judged.{Judged}
-use Rattle.check_expressions.specs.declared.Judged.TheVariants.{Typed, Faulty}
-use Rattle.check_expressions.specs.Answers.{SoundUnder, Refused, SaysUnder, Judges, JudgesUnder, StandsUnder, Checked, CheckedUnder, of_type, OfType}
+use Rattle.check_expressions.specs.Judgements.{Judged}
+use Rattle.std.specs.Prelude.{Ok, Err}
+use Rattle.layout.specs.Broken.{as_fault}
+use Rattle.layout.specs.declared.rules.Breach.{Breach}
+use Rattle.layout.specs.declared.rules.Rule.TheVariants.{WrongType}
+use Rattle.check_expressions.specs.Answers.{SoundUnder, Refused, SaysUnder, JudgesUnder, StandsUnder, Checked, CheckedUnder, OfType}
 use Rattle.check_expressions.specs.Parts.{asked_of, result_of, Asks, Right, Joined, Begins, Began}
 use Rattle.store_writing.proofs.Keeping.{within-below, kept-wider, kept_on}
 use Rattle.check_expressions.proofs.NoSteps.{low-on}
@@ -42,29 +46,29 @@ use Rattle.check_expressions.proofs.Starts.{loaded-part, loaded-after, judges-on
 -- ---- faults of what is joined
 module _ (W : List Word) (only : Bool) (S : Scopes) (i : ℕ) (a b : Expr) where
   -- the fault of the left side is the first
-  left-refused : (number word : ℕ) (others : List Fault) → wanted (asked_of (sort_in W i) (judge W only S a).type) (first a) (judge W only S a) ≡ record { number = number; at = word } ∷ others
-      → Refused (judge W only S (joined i a b)) number word
+  left-refused : (broken : Breach) (others : List Fault) → wanted (asked_of (sort_in W i) (judge W only S a).type) (first a) (judge W only S a) ≡ as_fault broken ∷ others
+      → Refused (judge W only S (joined i a b)) broken
   unfolding judge
-  left-refused number word others e =
+  left-refused broken others e =
       let s = sort_in W i in
       let ja = judge W only S a in
       let jb = judge W only S b in
       let t = asked_of s ja.type in
-      refused_as (judge_joined s a b ja jb) (result_of s) (wanted t (first a) ja ++ wanted t (first b) jb) (binary s ja.term jb.term) (joined_is s a b ja jb) number word (others ++ wanted t (first b) jb)
+      refused_as (judge_joined s a b ja jb) (result_of s) (wanted t (first a) ja ++ wanted t (first b) jb) (binary s ja.term jb.term) (joined_is s a b ja jb) broken (others ++ wanted t (first b) jb)
       (ap (λ (l : List Fault). l ++ wanted t (first b) jb) e)
 
-  pub refused-joined : (number word : ℕ) → Refused (judge W only S a) number word → Refused (judge W only S (joined i a b)) number word
-  refused-joined number word r =
+  pub refused-joined : (broken : Breach) → Refused (judge W only S a) broken → Refused (judge W only S (joined i a b)) broken
+  refused-joined broken r =
       let t = asked_of (sort_in W i) (judge W only S a).type in
-      left-refused number word (r.others ++ fault_if (differs t (judge W only S a).type) wrong_type (first a))
-      (wanted-first t (first a) (judge W only S a) (record { number = number; at = word }) r.others r.faults-are)
+      left-refused broken (r.others ++ fault_if (differs t (judge W only S a).type) wrong_type (first a))
+      (wanted-first t (first a) (judge W only S a) (as_fault broken) r.others r.faults-are)
 
   -- the left side is of a wrong type
-  pub wrong-joined : (type wants : ℕ) → (judge W only S a).faults ≡ [] → type_in type ≡ some (judge W only S a).type → type_in wants ≡ some (asked_of (sort_in W i) (judge W only S a).type) → (type ≡ wants → ⊥)
-      → Refused (judge W only S (joined i a b)) wrong_type (first a)
+  pub wrong-joined : (type wants : ValueType) → (judge W only S a).faults ≡ [] → type_in type ≡ (judge W only S a).type → type_in wants ≡ asked_of (sort_in W i) (judge W only S a).type → (type ≡ wants → ⊥)
+      → Refused (judge W only S (joined i a b)) (record { rule = WrongType; word = first a })
   unfolding fault
   wrong-joined type wants none is asks d =
-      left-refused wrong_type (first a) []
+      left-refused (record { rule = WrongType; word = first a }) []
       (wanted-wrong (asked_of (sort_in W i) (judge W only S a).type) (first a) (judge W only S a) type wants asks is d none)
 
 -- ---- what follows
@@ -142,23 +146,22 @@ module _ (nest : ℕ) (code values : List ℕ) (top at : ℕ) (s : StandsUnder n
     going-within = (rises (sort_in s.known.W) s.d g.f g.low g.e at g.i (s.e, s.to) g.spans g.rest).on
 
     -- a fault of what has been read is one of the whole
-    going-refused : (e : Expr) (n f low number word : ℕ) → rise (sort_in s.known.W) (expr_in (sort_in s.known.W) s.d) f low (got (e, n)) ≡ got (s.e, s.to)
-        → Refused (judge s.known.W only s.known.S e) number word → Refused (judge s.known.W only s.known.S s.e) number word
-    going-refused e n f low number word r q =
-        rise-keeps (sort_in s.known.W) (λ (x : Expr). Refused (judge s.known.W only s.known.S x) number word)
-        (λ i a b p. refused-joined s.known.W only s.known.S i a b number word p)
+    going-refused : (e : Expr) (n f low : ℕ) (broken : Breach) → rise (sort_in s.known.W) (expr_in (sort_in s.known.W) s.d) f low (got (e, n)) ≡ got (s.e, s.to)
+        → Refused (judge s.known.W only s.known.S e) broken → Refused (judge s.known.W only s.known.S s.e) broken
+    going-refused e n f low broken r q =
+        rise-keeps (sort_in s.known.W) (λ (x : Expr). Refused (judge s.known.W only s.known.S x) broken)
+        (λ i a b p. refused-joined s.known.W only s.known.S i a b broken p)
         (expr_in (sort_in s.known.W) s.d) f low e n (s.e, s.to) q r
 
-    going-faulty : (number word : ℕ) → Refused (judge s.known.W only s.known.S s.e) number word → JudgesUnder nest s.known.m s.known.n code now at s.to (judge s.known.W only s.known.S s.e) (Faulty number word)
+    going-faulty : (broken : Breach) → Refused (judge s.known.W only s.known.S s.e) broken → JudgesUnder nest s.known.m s.known.n code now at s.to (judge s.known.W only s.known.S s.e) (Err broken)
     unfolding SaysUnder
-    going-faulty number word r = record { says = r; kept = kept-wider g.judges.kept at s.to (omega arith) going-within; low = g.judges.low }
+    going-faulty broken r = record { says = r; kept = kept-wider g.judges.kept at s.to (omega arith) going-within; low = g.judges.low }
 
-    faulty-is : (number word : ℕ) → left ≡ Faulty number word → JudgesUnder nest s.known.m s.known.n code now at s.to (judge s.known.W only s.known.S s.e) left
-    faulty-is number word e =
-        subst (λ (r : Judged). JudgesUnder nest s.known.m s.known.n code now at s.to (judge s.known.W only s.known.S s.e) r) (sym e)
-        (going-faulty number word (going-refused g.e g.i g.f g.low number word g.rest (under-faulty _ _ _ _ _ _ _ left number word e g.judges.says)))
+    faulty-is : (broken : Breach) → left ≡ Err broken → JudgesUnder nest s.known.m s.known.n code now at s.to (judge s.known.W only s.known.S s.e) (Err broken)
+    faulty-is broken e =
+        (going-faulty broken (going-refused g.e g.i g.f g.low broken g.rest (under-faulty _ _ _ _ _ _ _ left broken e g.judges.says)))
 
-    module _ (type i : ℕ) (e : left ≡ Typed type i) where
+    module _ (type : ValueType) (i : ℕ) (e : left ≡ Ok (type, i)) where
       left-sound : SoundUnder nest s.known.m s.known.n (cells_of now) at g.i (judge s.known.W only s.known.S g.e) type i
       left-sound = under-typed _ _ _ _ _ _ _ left type i e g.judges.says
 
@@ -182,9 +185,9 @@ module _ (nest : ℕ) (code values : List ℕ) (top at : ℕ) (s : StandsUnder n
         level-is = el ∙ ap level_of operator-is
 
         -- no operator follows that goes on
-        stop_is : (0 < l → l ≤ top → ⊥) → JudgesUnder nest s.known.m s.known.n code now at s.to (judge s.known.W only s.known.S s.e) (Typed type i)
+        stop_is : (0 < l → l ≤ top → ⊥) → JudgesUnder nest s.known.m s.known.n code now at s.to (judge s.known.W only s.known.S s.e) (Ok (type, i))
         stop_is h =
-            subst (λ (y : Expr × ℕ). JudgesUnder nest s.known.m s.known.n code now at y.1 (judge s.known.W only s.known.S y.0) (Typed type i))
+            subst (λ (y : Expr × ℕ). JudgesUnder nest s.known.m s.known.n code now at y.1 (judge s.known.W only s.known.S y.0) (Ok (type, i)))
             (got_same (g.e, g.i) (s.e, s.to)
             (sym (rise-stop (sort_in s.known.W) (expr_in (sort_in s.known.W) s.d) g.f g.low g.e g.i (λ a b. h (omega (arith, level-is, g.some)) (omega (arith, level-is, g.width)))) ∙ g.rest))
             (subst (λ (r : Judged). JudgesUnder nest s.known.m s.known.n code now at g.i (judge s.known.W only s.known.S g.e) r) e g.judges)
@@ -235,18 +238,18 @@ module _ (nest : ℕ) (code values : List ℕ) (top at : ℕ) (s : StandsUnder n
                     (loaded-part s.known.W code at s.to (i + 1) joins.m s.loaded (omega (arith, z.0)) right-within) g.judges.kept (omega (arith, end_is));
               }
 
-          module _ (wants : ℕ) (asks : Asks w type wants) where
-            asks-here : type_in wants ≡ some (asked_of w (judge s.known.W only s.known.S g.e).type)
+          module _ (wants : ValueType) (asks : Asks w type wants) where
+            asks-here : type_in wants ≡ asked_of w (judge s.known.W only s.known.S g.e).type
             asks-here = asks.is (judge s.known.W only s.known.S g.e).type left-sound.type-is
 
             -- the left side is of a wrong type
-            wrong-is : (type ≡ wants → ⊥) → JudgesUnder nest s.known.m s.known.n code now at s.to (judge s.known.W only s.known.S s.e) (Faulty wrong_type at)
+            wrong-is : (type ≡ wants → ⊥) → JudgesUnder nest s.known.m s.known.n code now at s.to (judge s.known.W only s.known.S s.e) (Err (record { rule = WrongType; word = at }))
             wrong-is d =
-                going-faulty wrong_type at
-                (going-refused (joined g.i g.e joins.u) joins.m joins.f (next (level_of (sort_in s.known.W g.i))) wrong_type at joins.rest
-                (subst (λ (k : ℕ). Refused (judge s.known.W only s.known.S (joined g.i g.e joins.u)) wrong_type k) (spans-first g.e at g.i g.spans)
+                going-faulty (record { rule = WrongType; word = at })
+                (going-refused (joined g.i g.e joins.u) joins.m joins.f (next (level_of (sort_in s.known.W g.i))) (record { rule = WrongType; word = at }) joins.rest
+                (subst (λ (k : ℕ). Refused (judge s.known.W only s.known.S (joined g.i g.e joins.u)) (record { rule = WrongType; word = k })) (spans-first g.e at g.i g.spans)
                 (wrong-joined s.known.W only s.known.S g.i g.e joins.u type wants left-sound.none left-sound.type-is
-                (asks-here ∙ ap (λ (o : ℕ). some (asked_of o (judge s.known.W only s.known.S g.e).type)) operator-is) d)))
+                (asks-here ∙ ap (λ (o : ℕ). asked_of o (judge s.known.W only s.known.S g.e).type) operator-is) d)))
 
             module _ (same : type ≡ wants) (mid : List ℕ) (right : Judged) (c : CheckedUnder nest now values mid only (l - 1) (i + 1) right) where
               right-judges : JudgesUnder nest s.known.m s.known.n now mid (i + 1) joins.m (judge s.known.W only s.known.S joins.u) right
@@ -284,7 +287,7 @@ module _ (nest : ℕ) (code values : List ℕ) (top at : ℕ) (s : StandsUnder n
                     let r = spans-grow joins.u (g.i + 1) joins.m right-spans in
                     let start : first joins.u ≡ i + 1 = spans-first joins.u (g.i + 1) joins.m right-spans ∙ ap (λ (k : ℕ). k + 1) end_is in
                     let ja = judge s.known.W only s.known.S g.e in
-                    let asks-same : asked_of w ja.type ≡ ja.type = same-types wants type (asked_of w ja.type) ja.type asks-here left-sound.type-is (sym same) in
+                    let asks-same : asked_of w ja.type ≡ ja.type = sym asks-here ∙ ap type_in (sym same) ∙ left-sound.type-is in
                     let jb = judge s.known.W only s.known.S joins.u in
                     let q = x.is nest s.known.m s.known.n at joins.m g.e joins.u ja jb left-still asks-same start right-judges.says in
                     let kept = kept_on (kept-wider g.judges.kept at joins.m (omega arith) (omega (arith, r))) (kept-wider right-judges.kept at joins.m (omega (arith, z.0)) (omega arith)) in
@@ -304,7 +307,7 @@ module _ (nest : ℕ) (code values : List ℕ) (top at : ℕ) (s : StandsUnder n
                   judges = joined-judges;
                 }
 
-                going-grows : (b k : ℕ) → left' ≡ Typed b k → i < k
+                going-grows : (b : ValueType) (k : ℕ) → left' ≡ Ok (b, k) → i < k
                 going-grows b k q =
                     let r = spans-grow joins.u (g.i + 1) joins.m right-spans in
                     omega (arith, r, end_is, (under-typed _ _ _ _ _ _ _ left' b k q joined-judges.says).next-is)
@@ -317,29 +320,20 @@ pub record Runs (nest : ℕ) (values begun now : List ℕ) (only : Bool) (top at
 pub runs-first : (nest : ℕ) (values now : List ℕ) (only : Bool) (top at : ℕ) (left : Judged) → Runs nest values now now only top at left left
 runs-first nest values now only top at left = record { is = λ code b s. first-going nest code values top at s now only left b }
 
--- the words that are left
-unfoldable pub words_left : (words : ℕ) → Judged → ℕ
-words_left n (Typed type i) = suc (n - i)
-words_left n (Faulty number word) = 0
+module _ (nest : ℕ) (values begun now : List ℕ) (only : Bool) (top at : ℕ) (part : Judged) where
+  -- a rule is broken by what has been read
+  pub run-faulty : (code : List ℕ) → Began nest code values begun only at part → (broken : Breach) → Runs nest values begun now only top at part (Err broken) → CheckedUnder nest code values now only top at (Err broken)
+  run-faulty code b broken run = record { is = λ s. faulty-is nest code values top at s now only (Err broken) (run.is code b s) broken refl }
 
-fewer : (n i : ℕ) (r : Judged) → i < n → ((b k : ℕ) → r ≡ Typed b k → i < k) → words_left n r < suc (n - i)
-unfolding words_left
-fewer n i (Typed b k) h f = omega (arith, f b k refl)
-fewer n i (Faulty number word) h f = omega arith
+  module _ (type : ValueType) (i : ℕ) (run : Runs nest values begun now only top at part (Ok (type, i))) where
+    pub run_long : (code : List ℕ) → Began nest code values begun only at part → StandsUnder nest code values top at → length now ≡ length code
+    run_long code b s = (run.is code b s).judges.kept.long
 
-module _ (nest : ℕ) (values begun now : List ℕ) (only : Bool) (top at : ℕ) (part left : Judged) (run : Runs nest values begun now only top at part left) where
-  pub run-faulty : (code : List ℕ) → Began nest code values begun only at part → (number word : ℕ) → left ≡ Faulty number word → CheckedUnder nest code values now only top at left
-  run-faulty code b number word e = record { is = λ s. faulty-is nest code values top at s now only left (run.is code b s) number word e }
-
-  pub run_long : (code : List ℕ) → Began nest code values begun only at part → StandsUnder nest code values top at → length now ≡ length code
-  run_long code b s = (run.is code b s).judges.kept.long
-
-  module _ (type i : ℕ) (e : left ≡ Typed type i) where
     pub run_room : (code : List ℕ) → Began nest code values begun only at part → StandsUnder nest code values top at → i * 8 + 8 ≤ length now
-    run_room code b s = (going-in nest code values top at s now only left (run.is code b s) type i e).3
+    run_room code b s = (going-in nest code values top at s now only (Ok (type, i)) (run.is code b s) type i refl).3
 
     pub run_in : (code : List ℕ) → Began nest code values begun only at part → StandsUnder nest code values top at → (at < i) × (i < word_limit)
-    run_in code b s = let z = going-in nest code values top at s now only left (run.is code b s) type i e in (z.0, z.2)
+    run_in code b s = let z = going-in nest code values top at s now only (Ok (type, i)) (run.is code b s) type i refl in (z.0, z.2)
 
     pub run-add : (code : List ℕ) → Began nest code values begun only at part → StandsUnder nest code values top at → Fits w64 (i + 1)
     run-add code b s = record { fits = omega (arith, (run_in code b s).1) }
@@ -348,55 +342,55 @@ module _ (nest : ℕ) (values begun now : List ℕ) (only : Bool) (top at : ℕ)
     run-falls code t b s e = let z = run_in code b s in omega (arith, z.0, z.1)
 
     module _ (w l : ℕ) (ew : w ≡ op_at (cells_of now) i) (el : l ≡ level_of w) where
-      pub run_none : (code : List ℕ) → Began nest code values begun only at part → l ≡ 0 → CheckedUnder nest code values now only top at (Typed type i)
-      run_none code b z = record { is = λ s. stop_is nest code values top at s now only left (run.is code b s) type i e w l ew el (λ h g. omega arith) }
-
-      pub run-loose : (code : List ℕ) → Began nest code values begun only at part → top < l → CheckedUnder nest code values now only top at (Typed type i)
-      run-loose code b h = record { is = λ s. stop_is nest code values top at s now only left (run.is code b s) type i e w l ew el (λ f g. omega arith) }
+      -- no operator follows that goes on
+      pub run-stops : (code : List ℕ) → Began nest code values begun only at part → (l ≡ 0) ⊎ ((l ≡ 0 → ⊥) × (top < l)) → CheckedUnder nest code values now only top at (Ok (type, i))
+      run-stops code b (inl z) = record { is = λ s. stop_is nest code values top at s now only (Ok (type, i)) (run.is code b s) type i refl w l ew el (λ h g. omega arith) }
+      run-stops code b (inr z) = record { is = λ s. stop_is nest code values top at s now only (Ok (type, i)) (run.is code b s) type i refl w l ew el (λ h g. omega (arith, z.1)) }
 
       module _ (ne : l ≡ 0 → ⊥) (le : l ≤ top) where
         pub run-right : (code : List ℕ) → Began nest code values begun only at part → StandsUnder nest code values top at → StandsUnder nest now values (l - 1) (i + 1)
-        run-right code b s = right-stands nest code values top at s now only left (run.is code b s) type i e w l ew el ne le
+        run-right code b s = right-stands nest code values top at s now only (Ok (type, i)) (run.is code b s) type i refl w l ew el ne le
 
-        module _ (wants : ℕ) (asks : Asks w type wants) where
-          pub run-wrong : (code : List ℕ) → Began nest code values begun only at part → (type ≡ wants → ⊥) → CheckedUnder nest code values now only top at (Faulty wrong_type at)
-          run-wrong code b d = record { is = λ s. wrong-is nest code values top at s now only left (run.is code b s) type i e w l ew el ne le wants asks d }
+        module _ (wants : ValueType) (asks : Asks w type wants) where
+          pub run-wrong : (code : List ℕ) → Began nest code values begun only at part → (type ≡ wants → ⊥) → CheckedUnder nest code values now only top at (Err (record { rule = WrongType; word = at }))
+          run-wrong code b d = record { is = λ s. wrong-is nest code values top at s now only (Ok (type, i)) (run.is code b s) type i refl w l ew el ne le wants asks d }
 
           module _ (y : type ≡ wants) (mid : List ℕ) (right : Judged) (c : CheckedUnder nest now values mid only (l - 1) (i + 1) right) where
             pub run-joins : (code : List ℕ) → Began nest code values begun only at part → StandsUnder nest code values top at → Right mid w l i right
-            run-joins code b s = right_is nest code values top at s now only left (run.is code b s) type i e w l ew el ne le wants asks y mid right c
+            run-joins code b s = right_is nest code values top at s now only (Ok (type, i)) (run.is code b s) type i refl w l ew el ne le wants asks y mid right c
 
             module _ (after : List ℕ) (left' : Judged) (x : Joined mid after w wants i right left') where
               pub run_on : Runs nest values begun after only top at part left'
-              run_on = record { is = λ code b s. going_on nest code values top at s now only left (run.is code b s) type i e w l ew el ne le wants asks y mid right c after left' x }
+              run_on = record { is = λ code b s. going_on nest code values top at s now only (Ok (type, i)) (run.is code b s) type i refl w l ew el ne le wants asks y mid right c after left' x }
 
-              pub run-less : (code : List ℕ) → Began nest code values begun only at part → StandsUnder nest code values top at → words_left word_limit left' < words_left word_limit left
-              unfolding words_left
-              run-less code b s =
-                  let z = run_in code b s in
-                  rw e (fewer word_limit i left' z.1 (going-grows nest code values top at s now only left (run.is code b s) type i e w l ew el ne le wants asks y mid right c after left' x))
+            -- fewer words are left
+            module _ (after : List ℕ) (b : ValueType) (k : ℕ) (x : Joined mid after w wants i right (Ok (b, k))) where
+              pub run-less : (code : List ℕ) → Began nest code values begun only at part → StandsUnder nest code values top at → word_limit - k < word_limit - i
+              run-less code b' s =
+                  let z = run_in code b' s in
+                  let g = going-grows nest code values top at s now only (Ok (type, i)) (run.is code b' s) type i refl w l ew el ne le wants asks y mid right c after (Ok (b, k)) x b k refl in
+                  omega (arith, z.1, g)
 
 -- ---- an expression of a type
-module _ (code values after : List ℕ) (only : Bool) (wants at : ℕ) (r : Judged) (c : Checked code values after only disjunctions at r) where
-  pub typed-faulty : (number word : ℕ) → r ≡ Faulty number word → OfType code values after only wants at r
+module _ (code values after : List ℕ) (only : Bool) (wants : ValueType) (at : ℕ) (r : Judged) (c : Checked code values after only disjunctions at r) where
+  pub typed-faulty : (broken : Breach) → r ≡ Err broken → OfType code values after only wants at (Err broken)
   unfolding SaysUnder
-  typed-faulty number word e = record {
+  typed-faulty broken e = record {
     is = λ s t w.
         let j = judge s.known.W only s.known.S s.e in
-        let f = says-faulty _ _ _ _ _ _ r number word e (c.is s).says in
-        subst (Judges s.known.m s.known.n code after at s.to (of_type t (first s.e) j)) (sym e)
-        (record {
+        let f = says-faulty _ _ _ _ _ _ r broken e (c.is s).says in
+        record {
           says = record {
             others = f.others ++ fault_if (differs t j.type) wrong_type (first s.e);
-            faults-are = wanted-first t (first s.e) j (record { number = number; at = word }) f.others f.faults-are;
+            faults-are = wanted-first t (first s.e) j (as_fault broken) f.others f.faults-are;
           };
           kept = (c.is s).kept;
           low = (c.is s).low;
-        });
+        };
   }
 
-  module _ (type end : ℕ) (e : r ≡ Typed type end) where
-    pub typed_wrong : (type ≡ wants → ⊥) → OfType code values after only wants at (Faulty wrong_type at)
+  module _ (type : ValueType) (end : ℕ) (e : r ≡ Ok (type, end)) where
+    pub typed_wrong : (type ≡ wants → ⊥) → OfType code values after only wants at (Err (record { rule = WrongType; word = at }))
     unfolding SaysUnder fault
     typed_wrong d = record {
       is = λ s t w.
@@ -413,7 +407,7 @@ module _ (code values after : List ℕ) (only : Bool) (wants at : ℕ) (r : Judg
           };
     }
 
-    pub typed-right : type ≡ wants → OfType code values after only wants at (Typed type end)
+    pub typed-right : type ≡ wants → OfType code values after only wants at (Ok (type, end))
     unfolding SaysUnder
     typed-right y = record {
       is = λ s t w.
@@ -421,7 +415,7 @@ module _ (code values after : List ℕ) (only : Bool) (wants at : ℕ) (r : Judg
           let q = says_typed _ _ _ _ _ _ r type end e (c.is s).says in
           record {
             says = record {
-              none = wanted-none t (first s.e) j q.none (same-types wants type t j.type w q.type-is (sym y));
+              none = wanted-none t (first s.e) j q.none (sym w ∙ ap type_in (sym y) ∙ q.type-is);
               type-is = ap type_in y ∙ w;
               next-is = q.next-is;
               stands = q.stands;

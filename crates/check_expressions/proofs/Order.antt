@@ -8,10 +8,9 @@ use native.Mathlib.Omega.{arith}
 use lib.Dec.{eqb}
 use borrow.Author.Tests.{ne_eqb, lt-ltb}
 use Rattle.laws.proofs.Tests.{test}
-use Rattle.std.specs.Prelude.{if◌then◌else◌}
-use Rattle.paper.specs.Sorts.{NUMBER, TRUE, FALSE, NOT}
+use Rattle.paper.specs.Sorts.{NUMBER, TRUE, FALSE}
 use Rattle.paper.specs.Words.{Word}
-use Rattle.paper.specs.Terms.{Term, element_at, unary, binary}
+use Rattle.paper.specs.Terms.{Term}
 use Rattle.paper.specs.Trees.{Expr, leaf, element, nested, signed, joined, first}
 use Rattle.paper.specs.Expressions.{got, level, expr_in}
 use Rattle.paper.specs.Names.{DataType, a_num, a_bool, refused_piece, Meaning, unknown, variable, array, constant, loop, the_routine, the_errno, error_number, array_in, wrong_name, Scopes, sort_in, spelled, meaning}
@@ -21,7 +20,9 @@ use Rattle.climb.specs.Places.{Spans}
 use Rattle.climb.proofs.Places.{spans-grow, spans-first, stands}
 use Rattle.layout.specs.Rules.{unknown_name, wrong_kind, wrong_type}
 use Rattle.check_expressions.specs.Answers.{Refused}
-use Rattle.check_expressions.specs.Parts.{asked_of, result_of, signed_of}
+use Rattle.layout.specs.Broken.{as_fault}
+use Rattle.layout.specs.declared.rules.Breach.{Breach}
+use Rattle.check_expressions.specs.Parts.{asked_of, signed_of}
 use Rattle.check_expressions.proofs.FaultsOfParts.{append-none, judged-faults, judged-refused, joined_is, signed_is}
 
 -- Their words are from low up to high, and each comes before the next.
@@ -190,8 +191,8 @@ module _ (W : List Word) (c : Bool) (S : Scopes) where
       wanted-rising t (first e) a b (judge W c S e) (omega arith) (omega arith) (refuses e) (rising e a b s)
 
   -- The fault of an answer is the least of those of its expression.
-  pub least-is : (d j at to : ℕ) (e : Expr) (number word : ℕ) → level (sort_in W) (expr_in (sort_in W) d) j at ≡ got (e, to) → Refused (judge W c S e) number word
-      → least (judge W c S e).faults ≡ some (record { number = number; at = word })
-  least-is d j at to e number word h r =
+  pub least-is : (d j at to : ℕ) (e : Expr) (broken : Breach) → level (sort_in W) (expr_in (sort_in W) d) j at ≡ got (e, to) → Refused (judge W c S e) broken
+      → least (judge W c S e).faults ≡ some (as_fault broken)
+  least-is d j at to e broken h r =
       let q = rising e at to (stands (sort_in W) d j at (e, to) h) in
-      ap least r.faults-are ∙ rising-least at to (record { number = number; at = word }) r.others (subst (Rising at to) r.faults-are q)
+      ap least r.faults-are ∙ rising-least at to (as_fault broken) r.others (subst (Rising at to) r.faults-are q)

@@ -2,7 +2,7 @@
 use mathlib.Core.Path.{◌≡◌, refl, sym, ap, subst, ◌∙◌}
 use mathlib.Core.Bool.{Bool, true, false}
 use mathlib.Core.List.{List}
-use Prim.Native.Nat.{ℕ, suc, ◌+◌, ◌-◌, ◌*◌, ◌/◌, ◌%◌, ◌<◌, ◌≤◌}
+use Prim.Native.Nat.{ℕ, suc, ◌+◌, ◌-◌, ◌*◌, ◌%◌, ◌<◌, ◌≤◌}
 use native.Mathlib.Omega.{arith}
 use lib.Dec.{eqb}
 use lib.ListN.{length, get_or}
@@ -26,8 +26,11 @@ use Rattle.climb.proofs.Places.{spans-grow, spans-first, stands, begins}
 use Rattle.check_names.specs.Meanings.{first_meaning, kind_in, bool_in, own_in, meaning_in}
 use Rattle.check_names.specs.Promises as promises
 use Rattle.check_names.specs.Promises.{number_limit}
-use Rattle.check_expressions.specs.declared.Judged.{Judged}
-use Rattle.check_expressions.specs.declared.Judged.TheVariants.{Typed, Faulty}
+use Rattle.check_expressions.specs.Judgements.{Judged}
+use Rattle.std.specs.Prelude.{Ok, Err}
+use Rattle.layout.specs.declared.rules.Breach.{Breach}
+use Rattle.std.specs.Prelude.{Option, Some, None}
+use Rattle.layout.specs.declared.rules.Rule.{Rule}
 use Rattle.check_expressions.specs.Known.{Fresh, Loaded, Within}
 use Rattle.store_writing.specs.Promises.{Kept}
 use Rattle.check_expressions.specs.Answers.{Low, Refused, SaysUnder, JudgesUnder, StandsUnder, CheckedUnder}
@@ -69,8 +72,8 @@ judges-on d m n before mid after a b at to j r k w h g q = record { says = q.say
 
 pub says-short : (d m n : ℕ) (C : List ℕ) (at to : ℕ) (j : types.Judged) (r : Judged) → SaysUnder d m n C at to j r → to < word_limit → Short r
 unfolding SaysUnder Short
-says-short d m n C at to j (Typed b next) s h = omega (arith, s.next-is)
-says-short d m n C at to j (Faulty number word) s h = tt
+says-short d m n C at to j (Ok (b, next)) s h = omega (arith, s.next-is)
+says-short d m n C at to j (Err broken) s h = tt
 
 -- ---- what stands before an operand
 pub record Covers (W : ℕ → ℕ) (inner : ℕ → Parsed (Expr × ℕ)) (at k : ℕ) : Type 0 where
@@ -249,22 +252,23 @@ module _ (nest : ℕ) (code values : List ℕ) (at : ℕ) (b : Begins nest code 
               whole-as only code after r (leaf at, at + 1) (got_same (b.e, b.to) (leaf at, at + 1) (sym (operand-is NAME name-first (λ q. omega arith) (λ q. omega arith) (λ q. omega arith)) ∙ named))
               (subst (λ (j : types.Judged). JudgesUnder nest b.known.m b.known.n code after at (at + 1) j r) same (a.is nest name-meant))
 
-          module _ (brace : v ≡ open_brace) (broken : ℕ) (br : BreaksIndexed (kind_in m) only broken) where
+          module _ (brace : v ≡ open_brace) (broken : Option Rule) (br : BreaksIndexed (kind_in m) only broken) where
             element-judged : judge_element only (meaning_in b.known.routine m) at (element-inside v ev brace).e (judge b.known.W only b.known.S (element-inside v ev brace).e)
                 ≡ judge b.known.W only b.known.S (element at (element-inside v ev brace).e)
             unfolding judge
             element-judged = ap (λ (x : Meaning). judge_element only x at (element-inside v ev brace).e (judge b.known.W only b.known.S (element-inside v ev brace).e)) name-means
 
-            wrong-is : (broken ≡ 0 → ⊥) → JudgesUnder nest b.known.m b.known.n code code at b.to (judge b.known.W only b.known.S b.e) (Faulty broken at)
+            wrong-is : (rule : Rule) → broken ≡ Some rule → JudgesUnder nest b.known.m b.known.n code code at b.to (judge b.known.W only b.known.S b.e) (Err (record { rule = rule; word = at }))
             unfolding meaning_in
-            wrong-is d =
+            wrong-is rule d =
+                let r : Breach = record { rule = rule; word = at } in
                 let i = element-inside v ev brace in
-                whole-as only code code (Faulty broken at) (element at i.e, i.n + 1) i.whole
-                (judges-refused nest b.known.m b.known.n code at (i.n + 1) (judge b.known.W only b.known.S (element at i.e)) broken at
-                (subst (λ (j : types.Judged). Refused j broken at) element-judged
-                (br.wrong d b.known.routine (bool_in m) (own_in m) (value_in m) at i.e (judge b.known.W only b.known.S i.e))))
+                whole-as only code code (Err r) (element at i.e, i.n + 1) i.whole
+                (judges-refused nest b.known.m b.known.n code at (i.n + 1) (judge b.known.W only b.known.S (element at i.e)) r
+                (subst (λ (j : types.Judged). Refused j r) element-judged
+                (br.wrong rule d b.known.routine (bool_in m) (own_in m) (value_in m) at i.e (judge b.known.W only b.known.S i.e))))
 
-            element-is : broken ≡ 0 → (mid after : List ℕ) (index r : Judged) → CheckedUnder (nest - 1) code values mid only disjunctions (at + 2) index → Indexed mid after m index at r
+            element-is : broken ≡ None → (mid after : List ℕ) (index r : Judged) → CheckedUnder (nest - 1) code values mid only disjunctions (at + 2) index → Indexed mid after m index at r
                 → JudgesUnder nest b.known.m b.known.n code after at b.to (judge b.known.W only b.known.S b.e) r
             unfolding name-meant
             element-is z mid after index r k x =
@@ -323,9 +327,9 @@ module _ (nest : ℕ) (code values : List ℕ) (at : ℕ) (b : Begins nest code 
       height-first : l ≡ height (sort_in b.known.W at) - 1
       height-first = el ∙ ap (λ (q : ℕ). height q - 1) sort-first
 
-      module _ (d : l ≡ 0 → ⊥) where
+      module _ (d : 0 < l) where
         part-covers : Covers (sort_in b.known.W) (expr_in (sort_in b.known.W) b.d) at l
-        part-covers = covering (sort_in b.known.W) (expr_in (sort_in b.known.W) b.d) at l height-first d
+        part-covers = covering (sort_in b.known.W) (expr_in (sort_in b.known.W) b.d) at l height-first (λ z. omega arith)
 
         part-went : Went {B = Expr × ℕ} (level (sort_in b.known.W) (expr_in (sort_in b.known.W) b.d) l (at + 1)) (λ (y : Expr × ℕ). got (signed at y.0, y.1)) (b.e, b.to)
         unfolding behind
@@ -402,7 +406,7 @@ module _ (nest : ℕ) (code values after : List ℕ) (only : Bool) (at : ℕ) (r
     pub began-name : (v ≡ open_brace → ⊥) → Alone code after m only at r → Began nest code values after only at r
     began-name h a = record { is = λ b. alone-is nest code values at b s es name m em only v ev h after r a }
 
-    pub began-element : v ≡ open_brace → (kind broken : ℕ) → kind ≡ kind_in m → BreaksIndexed kind only broken → broken ≡ 0 → (mid : List ℕ) (index : Judged) → CheckedUnder (nest - 1) code values mid only disjunctions (at + 2) index → Indexed mid after m index at r
+    pub began-element : v ≡ open_brace → (kind : ℕ) (broken : Option Rule) → kind ≡ kind_in m → BreaksIndexed kind only broken → broken ≡ None → (mid : List ℕ) (index : Judged) → CheckedUnder (nest - 1) code values mid only disjunctions (at + 2) index → Indexed mid after m index at r
         → Began nest code values after only at r
     began-element brace kind broken ek br z mid index k x = record {
       is = λ b. element-is nest code values at b s es name m em only v ev brace broken (subst (λ (q : ℕ). BreaksIndexed q only broken) ek br) z mid after index r k x;
@@ -411,18 +415,17 @@ module _ (nest : ℕ) (code values after : List ℕ) (only : Bool) (at : ℕ) (r
   pub began-paren : s ≡ open_paren → (mid : List ℕ) (inner : Judged) → CheckedUnder (nest - 1) code values mid only disjunctions (at + 1) inner → Nested mid after inner at r → Began nest code values after only at r
   began-paren paren mid inner k x = record { is = λ b. paren-is nest code values at b s es paren only mid inner k after r x }
 
-  module _ (l : ℕ) (el : l ≡ height s - 1) where
-    pub began-signed : (l ≡ 0 → ⊥) → (mid : List ℕ) (part : Judged) → CheckedUnder nest code values mid only l (at + 1) part → Signed mid after s part at r → Began nest code values after only at r
-    began-signed d mid part k x = record { is = λ b. part-is nest code values at b s es l el d only mid part k after r x }
+  pub began-signed : (l : ℕ) → l ≡ height s - 1 → 0 < l → (mid : List ℕ) (part : Judged) → CheckedUnder nest code values mid only l (at + 1) part → Signed mid after s part at r → Began nest code values after only at r
+  began-signed l el d mid part k x = record { is = λ b. part-is nest code values at b s es l el d only mid part k after r x }
 
-    pub began-literal : l ≡ 0 → (s ≡ NAME → ⊥) → (s ≡ open_paren → ⊥) → Literal code after at r → Began nest code values after only at r
-    began-literal z name paren x = record { is = λ b. literal-is nest code values at b s es l el z name paren only after r x }
+  pub began-literal : height s - 1 ≡ 0 → (s ≡ NAME → ⊥) → (s ≡ open_paren → ⊥) → Literal code after at r → Began nest code values after only at r
+  began-literal z name paren x = record { is = λ b. literal-is nest code values at b s es 0 (sym z) refl name paren only after r x }
 
 pub began-room : (nest left : ℕ) (code values mid : List ℕ) (only : Bool) (top a at : ℕ) (r : Judged) → Begins nest code values at → StandsUnder left code values top a → CheckedUnder left code values mid only top a r → at * 8 + 8 ≤ length mid
 began-room nest left code values mid only top a at r b s k = omega (arith, begins-room nest code values at b, (k.is s).kept.long)
 
 pub began-wrong : (nest : ℕ) (code values : List ℕ) (only : Bool) (at s : ℕ) → s ≡ op_at (cells_of code) at → s ≡ NAME → (m : ℕ) → promises.Meant code values at m → (v : ℕ) → v ≡ op_at (cells_of code) (at + 1) → v ≡ open_brace
-    → (kind broken : ℕ) → kind ≡ kind_in m → BreaksIndexed kind only broken → (broken ≡ 0 → ⊥) → Began nest code values code only at (Faulty broken at)
-began-wrong nest code values only at s es name m em v ev brace kind broken ek br d = record {
-  is = λ b. wrong-is nest code values at b s es name m em only v ev brace broken (subst (λ (q : ℕ). BreaksIndexed q only broken) ek br) d;
+    → (kind : ℕ) (broken : Option Rule) → kind ≡ kind_in m → BreaksIndexed kind only broken → (rule : Rule) → broken ≡ Some rule → Began nest code values code only at (Err (record { rule = rule; word = at }))
+began-wrong nest code values only at s es name m em v ev brace kind broken ek br rule d = record {
+  is = λ b. wrong-is nest code values at b s es name m em only v ev brace broken (subst (λ (q : ℕ). BreaksIndexed q only broken) ek br) rule d;
 }

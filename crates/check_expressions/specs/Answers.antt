@@ -1,5 +1,6 @@
 -- What the check of an expression answers, and what it asks of the two stores.
-use Rattle.std.specs.Prelude.{◌≡◌, Bool, List, [], ◌∷◌, ℕ, ◌+◌, ◌*◌, ◌<◌, ◌≤◌}
+use Rattle.layout.specs.declared.types.ValueType.{ValueType}
+use Rattle.std.specs.Prelude.{◌≡◌, Bool, List, [], ◌∷◌, ℕ, ◌<◌, ◌≤◌, Ok, Err}
 use Rattle.std.proofs.Math.Option.{some}
 use Rattle.paper.specs.Trees.{Expr, first}
 use Rattle.paper.specs.Expressions.{got, nestings, disjunctions, level, level_of, expr_in}
@@ -10,9 +11,10 @@ use Rattle.store_cells.specs.Cells.{cells_of}
 use Rattle.code.specs.Cells.{op_at}
 use Rattle.code.specs.Spans.{term_within}
 use Rattle.layout.specs.Types.{type_in}
+use Rattle.layout.specs.Broken.{as_fault}
+use Rattle.layout.specs.declared.rules.Breach.{Breach}
 use Rattle.store_writing.specs.Promises.{Kept}
-use Rattle.check_expressions.specs.declared.Judged.{Judged}
-use Rattle.check_expressions.specs.declared.Judged.TheVariants.{Typed, Faulty}
+use Rattle.check_expressions.specs.Judgements.{Judged}
 use Rattle.check_expressions.specs.Known.{Loaded, Known}
 
 -- ---- the code store
@@ -21,22 +23,22 @@ pub record Low (before after : List ℕ) : Type 0 where
   pub stays : (i : ℕ) → op_at (cells_of before) i < 128 → op_at (cells_of after) i < 128
 
 -- ---- answers
--- No rule is broken: the type's number, the word after it, and its term that stands in the cells, in which so many parentheses and braces may nest.
-pub record SoundUnder (nesting m n : ℕ) (C : List ℕ) (at to : ℕ) (j : types.Judged) (type next : ℕ) : Type 0 where
+-- No rule is broken: the type, the word after it, and its term that stands in the cells, in which so many parentheses and braces may nest.
+pub record SoundUnder (nesting m n : ℕ) (C : List ℕ) (at to : ℕ) (j : types.Judged) (type : ValueType) (next : ℕ) : Type 0 where
   pub none : j.faults ≡ []
-  pub type-is : type_in type ≡ some j.type
+  pub type-is : type_in type ≡ j.type
   pub next-is : next ≡ to
   pub stands : term_within m n C nesting at to ≡ some j.term
 
 -- The rule broken, and its word, are those of the first fault.
-pub record Refused (j : types.Judged) (number word : ℕ) : Type 0 where
+pub record Refused (j : types.Judged) (broken : Breach) : Type 0 where
   pub others : List Fault
-  pub faults-are : j.faults ≡ record { number = number; at = word } ∷ others
+  pub faults-are : j.faults ≡ as_fault broken ∷ others
 
 -- what an answer says of an expression from `at` up to `to` that the paper judges so
 unfoldable pub SaysUnder : (nesting m n : ℕ) (C : List ℕ) (at to : ℕ) → types.Judged → Judged → Type 0
-SaysUnder nesting m n C at to j (Typed type next) = SoundUnder nesting m n C at to j type next
-SaysUnder nesting m n C at to j (Faulty number word) = Refused j number word
+SaysUnder nesting m n C at to j (Ok (type, next)) = SoundUnder nesting m n C at to j type next
+SaysUnder nesting m n C at to j (Err broken) = Refused j broken
 
 pub record JudgesUnder (nesting m n : ℕ) (before after : List ℕ) (at to : ℕ) (j : types.Judged) (r : Judged) : Type 0 where
   pub says : SaysUnder nesting m n (cells_of after) at to j r
@@ -61,7 +63,7 @@ pub record CheckedUnder (nesting : ℕ) (code values after : List ℕ) (only : B
   pub is : (s : StandsUnder nesting code values top at) → JudgesUnder nesting s.known.m s.known.n code after at s.to (judge s.known.W only s.known.S s.e) r
 
 -- "parentheses and braces in an expression nest to 16"
-abbrev pub Sound : (m n : ℕ) (C : List ℕ) (at to : ℕ) (j : types.Judged) (type next : ℕ) → Type 0
+abbrev pub Sound : (m n : ℕ) (C : List ℕ) (at to : ℕ) (j : types.Judged) (type : ValueType) (next : ℕ) → Type 0
 Sound m n C at to j type next = SoundUnder nestings m n C at to j type next
 
 abbrev pub Judges : (m n : ℕ) (before after : List ℕ) (at to : ℕ) (j : types.Judged) (r : Judged) → Type 0
@@ -78,6 +80,6 @@ Checked code values after only top at r = CheckedUnder nestings code values afte
 abbrev pub of_type : DataType → (at : ℕ) → types.Judged → types.Judged
 of_type t i j = record { type = t; faults = wanted t i j; term = j.term }
 
-pub record OfType (code values after : List ℕ) (only : Bool) (wants at : ℕ) (r : Judged) : Type 0 where
-  pub is : (s : Stands code values disjunctions at) (t : DataType) → type_in wants ≡ some t
+pub record OfType (code values after : List ℕ) (only : Bool) (wants : ValueType) (at : ℕ) (r : Judged) : Type 0 where
+  pub is : (s : Stands code values disjunctions at) (t : DataType) → type_in wants ≡ t
       → Judges s.known.m s.known.n code after at s.to (of_type t (first s.e) (judge s.known.W only s.known.S s.e)) r

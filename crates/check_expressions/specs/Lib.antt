@@ -1,3 +1,4 @@
+pub mod Judgements
 pub mod Known
 pub mod Owned
 pub mod Answers

@@ -1,5 +1,5 @@
 -- Whose data a name means, and when the names of a scope are told by what they mean.
-use Rattle.std.specs.Prelude.{◌≡◌, Bool, true, false, map, ℕ, eqb, if◌then◌else◌}
+use Rattle.std.specs.Prelude.{◌≡◌, Bool, false, map, ℕ, eqb, if◌then◌else◌}
 use Rattle.paper.specs.Terms.{Ref, of_module, of_routine}
 use Rattle.paper.specs.Names.{Meaning, Text, Names, text_of, Scopes, is_among, meaning}
 use Rattle.check_names.specs.Meanings.{is_protected}

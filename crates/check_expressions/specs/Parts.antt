@@ -1,6 +1,6 @@
 -- The parts of the check of an expression.
-use Rattle.std.specs.Prelude.{◌≡◌, Bool, true, false, ◌||◌, List, [], ℕ, suc, ◌+◌, ◌*◌, ◌<◌, ◌≤◌, eqb, leb, length, if◌then◌else◌}
-use Rattle.std.proofs.Math.Option.{some}
+use Rattle.layout.specs.declared.types.ValueType.{ValueType}
+use Rattle.std.specs.Prelude.{◌≡◌, Bool, true, false, ◌||◌, List, [], ℕ, suc, ◌+◌, ◌*◌, ◌<◌, ◌≤◌, eqb, leb, length, if◌then◌else◌, Ok, Err, Option, Some, None}
 use Rattle.paper.specs.Sorts.{NUMBER, NOT, plus, minus_sign, equal, unequal}
 use Rattle.paper.specs.Words.{Word, word_limit}
 use Rattle.paper.specs.Trees.{Expr, first}
@@ -10,12 +10,13 @@ use Rattle.paper.specs.Types.{Fault, fault, judge_name, judge_element, judge_sig
 use Rattle.paper.specs.Types as types
 use Rattle.store_cells.specs.Cells.{cells_of}
 use Rattle.code.specs.Cells.{first_window, op_in, value_in, op_at, value_at, link_at}
-use Rattle.code.specs.Spans.{a_span, a_call_slot, a_parenthesis, right_in, operator_in, operator_of, prefix_in}
-use Rattle.climb.specs.Rise.{height, lowest, begin}
+use Rattle.code.specs.Spans.{a_span, a_parenthesis, right_in, operator_in, operator_of, prefix_in}
+use Rattle.climb.specs.Rise.{lowest, begin}
 use Rattle.layout.specs.Types.{type_in}
 use Rattle.check_names.specs.Meanings.{an_array, kind_in, meaning_with, meaning_in}
-use Rattle.check_expressions.specs.declared.Judged.{Judged}
-use Rattle.check_expressions.specs.declared.Judged.TheVariants.{Typed, Faulty}
+use Rattle.layout.specs.Broken.{number_of}
+use Rattle.layout.specs.declared.rules.Rule.{Rule}
+use Rattle.check_expressions.specs.Judgements.{Judged}
 use Rattle.check_expressions.specs.Known.{Fresh, Loaded, largest, Within, Known}
 use Rattle.store_writing.specs.Promises.{Kept}
 use Rattle.check_expressions.specs.Answers.{SoundUnder, Refused, SaysUnder, JudgesUnder}
@@ -32,13 +33,13 @@ asked_of s t =
 unfoldable pub result_of : (sort : ℕ) → DataType
 result_of s = if leb relations (level_of s) then a_bool else a_num
 
--- r is the number of the type that an operator asks for, where that of its left side is this
-pub record Asks (s left r : ℕ) : Type 0 where
-  pub is : (t : DataType) → type_in left ≡ some t → type_in r ≡ some (asked_of s t)
+-- r is the type that an operator asks for, where that of its left side is this
+pub record Asks (s : ℕ) (left r : ValueType) : Type 0 where
+  pub is : (t : DataType) → type_in left ≡ t → type_in r ≡ asked_of s t
 
 -- r is that of what an operator of level l gives
-pub record Gives (l r : ℕ) : Type 0 where
-  pub is : (s : ℕ) → l ≡ level_of s → type_in r ≡ some (result_of s)
+pub record Gives (l : ℕ) (r : ValueType) : Type 0 where
+  pub is : (s : ℕ) → l ≡ level_of s → type_in r ≡ result_of s
 
 -- r is the number of an operator
 pub record Numbered (s r : ℕ) : Type 0 where
@@ -58,8 +59,8 @@ pub record Prefixes (s r : ℕ) : Type 0 where
 unfoldable pub signed_of : (sort : ℕ) → DataType
 signed_of s = if eqb s NOT then a_bool else a_num
 
-pub record SignType (s r : ℕ) : Type 0 where
-  pub is : type_in r ≡ some (signed_of s)
+pub record SignType (s : ℕ) (r : ValueType) : Type 0 where
+  pub is : type_in r ≡ signed_of s
 
 -- an operator's word, whose right side ends at n
 pub record Tied (before after : List ℕ) (s i n : ℕ) : Type 0 where
@@ -80,19 +81,20 @@ pub record Meant (cell : ℕ) : Type 0 where
   pub most : m ≤ first_window
   pub within : Within m n (meaning_in routine cell)
 
--- the fault of a rule at a word; of rule 0 none
-unfoldable pub fault_of : (rule at : ℕ) → List Fault
-fault_of rule at = if eqb rule 0 then [] else fault rule at
+-- the fault of a rule at a word, if there is one
+unfoldable pub fault_of : Option Rule → (at : ℕ) → List Fault
+fault_of None at = []
+fault_of (Some rule) at = fault (number_of rule) at
 
--- r is the rule that a name of this kind breaks where it stands alone
-pub record BreaksAlone (kind : ℕ) (only : Bool) (r : ℕ) : Type 0 where
+-- r is the rule that a name of this kind breaks where it stands alone, if any
+pub record BreaksAlone (kind : ℕ) (only : Bool) (r : Option Rule) : Type 0 where
   pub is : (routine : ℕ → ℕ) (bool own value at : ℕ) → (judge_name only (meaning_with routine kind bool own value) at).faults ≡ fault_of r at
 
--- r is the rule that a name of this kind breaks before an index
-pub record BreaksIndexed (kind : ℕ) (only : Bool) (r : ℕ) : Type 0 where
-  pub wrong : (r ≡ 0 → ⊥) → (routine : ℕ → ℕ) (bool own value at : ℕ) (e : Expr) (j : types.Judged) → Refused (judge_element only (meaning_with routine kind bool own value) at e j) r at
-  pub kind-is : r ≡ 0 → kind ≡ an_array
-  pub free : r ≡ 0 → only ≡ false
+-- r is the rule that a name of this kind breaks before an index, if any
+pub record BreaksIndexed (kind : ℕ) (only : Bool) (r : Option Rule) : Type 0 where
+  pub wrong : (rule : Rule) → r ≡ Some rule → (routine : ℕ → ℕ) (bool own value at : ℕ) (e : Expr) (j : types.Judged) → Refused (judge_element only (meaning_with routine kind bool own value) at e j) (record { rule = rule; word = at })
+  pub kind-is : r ≡ None → kind ≡ an_array
+  pub free : r ≡ None → only ≡ false
 
 pub record Alone (before after : List ℕ) (cell : ℕ) (only : Bool) (at : ℕ) (r : Judged) : Type 0 where
   pub is : (d : ℕ) (g : Meant cell) → JudgesUnder d g.m g.n before after at (at + 1) (judge_name only (meaning_in g.routine cell) at) r
@@ -108,8 +110,8 @@ pub record Literal (before after : List ℕ) (at : ℕ) (r : Judged) : Type 0 wh
 -- ---- around what has been answered
 -- the word after it is a word's index
 unfoldable pub Short : Judged → Type 0
-Short (Typed type next) = next < word_limit
-Short (Faulty number word) = Unit {0}
+Short (Ok (type, next)) = next < word_limit
+Short (Err broken) = Unit {0}
 
 -- parentheses
 pub record Nested (before after : List ℕ) (inner : Judged) (at : ℕ) (r : Judged) : Type 0 where
@@ -138,7 +140,7 @@ pub record Right (code : List ℕ) (s l i : ℕ) (right : Judged) : Type 0 where
   pub last : to < word_limit
   pub room : to * 8 + 8 ≤ length code
 
-pub record Joined (before after : List ℕ) (s wants i : ℕ) (right r : Judged) : Type 0 where
+pub record Joined (before after : List ℕ) (s : ℕ) (wants : ValueType) (i : ℕ) (right r : Judged) : Type 0 where
   pub is : (d m n at to : ℕ) (a b : Expr) (ja jb : types.Judged) → SoundUnder d m n (cells_of before) at i ja wants i → asked_of s ja.type ≡ ja.type
       → first b ≡ i + 1 → SaysUnder d m n (cells_of before) (i + 1) to jb right → JudgesUnder d m n before after at to (judge_joined s a b ja jb) r
 

@@ -1,7 +1,8 @@
 // The check of an expression: names, types and links, by precedence climbing over the words of the code store in place.
+// Both stores are lent one by one: check_statements says why.
 #![tactic(auto)]
 
-ghost use Rattle.std.specs.Prelude.{◌≡◌, ◌+◌, ◌-◌, ◌*◌, ◌<◌, ◌≤◌, length};
+ghost use Rattle.std.specs.Prelude.{◌≡◌, ◌+◌, ◌-◌, ◌*◌, ◌<◌, ◌≤◌, length, MatchOption};
 ghost use Rattle.paper.specs.Expressions.{disjunctions, level_of};
 ghost use Rattle.paper.specs.Words.{word_limit};
 ghost use Rattle.store_cells.specs.Cells.{cells_of};
@@ -13,42 +14,17 @@ ghost use Rattle.check_expressions.specs.Answers.{StandsUnder, CheckedUnder, Sta
 ghost use Rattle.check_expressions.specs.Parts.{Asks, Numbered, Prefixes, SignType, Gives, Tied, Meant, BreaksAlone, BreaksIndexed, Alone, SmallNumber, Literal, Short, Nested, Signed, Indexed, Right, Joined, Begins, Began};
 
 use layout::limits::NESTINGS;
-use layout::types::Type;
-use layout::{kinds, levels, ops, parts, rules, types};
+use layout::rules::{Breach, Rule};
+use layout::types::ValueType;
+use layout::{kinds, levels, ops, parts};
 use store_writing::{set_head, set_word, sort};
 
-#[derive(Drop)]
-pub enum Judged {
-    // its type, and the word after it
-    Typed(Type, usize),
-    // the rule broken, and its word
-    Faulty(u32, usize),
-}
+// What the check of an expression answers: its type, and the word after it; or the rule broken, and its word.
+pub type Judged = Result<(ValueType, usize), Breach>;
 
 // ---- operators
 
-fn level_of(s: u32) -> u32
-    ensures { result ≡ level_of s }
-{
-    match s {
-        text_sorts::EQUAL => levels::RELATIONS,
-        text_sorts::LESS => levels::RELATIONS,
-        text_sorts::LESS_EQUAL => levels::RELATIONS,
-        text_sorts::UNEQUAL => levels::RELATIONS,
-        text_sorts::GREATER => levels::RELATIONS,
-        text_sorts::GREATER_EQUAL => levels::RELATIONS,
-        text_sorts::PLUS => levels::SUMS,
-        text_sorts::MINUS_SIGN => levels::SUMS,
-        text_sorts::TIMES => levels::PRODUCTS,
-        text_sorts::AND => levels::CONJUNCTIONS,
-        text_sorts::DIV => levels::PRODUCTS,
-        text_sorts::MOD => levels::PRODUCTS,
-        text_sorts::OR => levels::DISJUNCTIONS,
-        text_sorts::XOR => levels::DISJUNCTIONS,
-        _ => 0,
-    }
-}
-
+// The number by which a word's op names an operator, as the cells of the code store have it. XOR is the last that is left.
 fn number_of(s: u32) -> u32
     requires { 0 < level_of s }
     ensures { Numbered s result }
@@ -72,88 +48,72 @@ fn number_of(s: u32) -> u32
 }
 
 // The type that an operator of level l asks of both sides, where the left one's type is this.
-fn asked(s: u32, l: u32, left: Type) -> Type
+fn asked(s: u32, l: u32, left: ValueType) -> ValueType
     requires { l ≡ level_of s }
     ensures { Asks s left result }
 {
-    if l < levels::RELATIONS {
-        return types::NUM;
+    match s {
+        text_sorts::EQUAL | text_sorts::UNEQUAL => left,
+        _ if levels::RELATIONS < l => ValueType::Bool,
+        _ => ValueType::Num,
     }
-    if levels::RELATIONS < l {
-        return types::BOOL;
-    }
-    if s == text_sorts::EQUAL {
-        return left;
-    }
-    if s == text_sorts::UNEQUAL {
-        return left;
-    }
-    types::NUM
 }
 
 // The type of what an operator of level l gives.
-fn given(l: u32) -> Type
+fn given(l: u32) -> ValueType
     ensures { Gives l result }
 {
     if l < levels::RELATIONS {
-        return types::NUM;
+        ValueType::Num
+    } else {
+        ValueType::Bool
     }
-    types::BOOL
 }
 
-// The level of what NOT or a sign covers; 0 for any other word.
-fn covered(s: u32) -> u32
-    ensures { result ≡ height s - 1 }
+// The level of what NOT or a sign covers.
+#[tactic(auto, unfolding(climb::specs::Rise::height))]
+fn covered(s: u32) -> Option<u32>
+    ensures { MatchOption result (height s - 1 ≡ 0) (λ l. (l ≡ height s - 1) × (0 < l)) }
 {
-    if s == text_sorts::NOT {
-        return levels::CONJUNCTIONS;
+    match s {
+        text_sorts::NOT => Some(levels::CONJUNCTIONS),
+        text_sorts::PLUS | text_sorts::MINUS_SIGN => Some(levels::PRODUCTS),
+        _ => None,
     }
-    if s == text_sorts::PLUS {
-        return levels::PRODUCTS;
-    }
-    if s == text_sorts::MINUS_SIGN {
-        return levels::PRODUCTS;
-    }
-    0
 }
 
 fn prefix_of(s: u32) -> u32
     ensures { Prefixes s result }
 {
-    if s == text_sorts::NOT {
-        return ops::NOT;
+    match s {
+        text_sorts::NOT => ops::NOT,
+        text_sorts::MINUS_SIGN => ops::MINUS,
+        _ => ops::PLUS,
     }
-    if s == text_sorts::MINUS_SIGN {
-        return ops::MINUS;
-    }
-    ops::PLUS
 }
 
 // The type that NOT or a sign asks for, and gives.
-fn sign_type(s: u32) -> Type
+fn sign_type(s: u32) -> ValueType
     ensures { SignType s result }
 {
     if s == text_sorts::NOT {
-        return types::BOOL;
+        ValueType::Bool
+    } else {
+        ValueType::Num
     }
-    types::NUM
 }
 
 // ---- operands of one word
 
-// The rule that a name of this kind breaks where it stands alone, 0 for none.
-fn breaks_alone(kind: u32, only: bool) -> u32
+// The rule that a name of this kind breaks where it stands alone.
+fn breaks_alone(kind: u32, only: bool) -> Option<Rule>
     ensures { BreaksAlone kind only result }
 {
     match kind {
-        kinds::VARIABLE => if only { rules::WRONG_KIND } else { 0 },
-        kinds::ARRAY => rules::WRONG_KIND,
-        kinds::CONSTANT => 0,
-        kinds::LOOP => if only { rules::WRONG_KIND } else { 0 },
-        kinds::ROUTINE => rules::WRONG_KIND,
-        kinds::ERRNO => if only { rules::WRONG_KIND } else { 0 },
-        kinds::ERROR_NUMBER => 0,
-        _ => rules::UNKNOWN_NAME,
+        kinds::CONSTANT | kinds::ERROR_NUMBER => None,
+        kinds::VARIABLE | kinds::LOOP | kinds::ERRNO if !only => None,
+        kinds::VARIABLE..=kinds::ERROR_NUMBER => Some(Rule::WrongKind),
+        _ => Some(Rule::UnknownName),
     }
 }
 
@@ -163,24 +123,29 @@ fn plain(code: &mut [u8], m: u32, only: bool, at: usize) -> Judged
     ensures { Alone code.old code.new m only at result }
 {
     let kind = check_names::kind_of(m);
-    let broken = breaks_alone(kind, only);
-    if broken != 0 {
-        return Judged::Faulty(broken, at);
+    if let Some(rule) = breaks_alone(kind, only) {
+        return Err(Breach { rule, word: at });
     }
     let value = check_names::value_of(m);
-    if kind == kinds::ERRNO {
-        set_head(code, at, ops::MODULE_SLOT, layout::cells::ERRNO_VALUE);
-        return Judged::Typed(types::NUM, at + 1);
+    match kind {
+        kinds::ERRNO => {
+            set_head(code, at, ops::MODULE_SLOT, layout::cells::ERRNO_VALUE);
+            Ok((ValueType::Num, at + 1))
+        }
+        kinds::ERROR_NUMBER => {
+            set_head(code, at, ops::LITERAL, value + parts::BIAS);
+            Ok((ValueType::Num, at + 1))
+        }
+        _ => {
+            set_head(code, at, ops::MODULE_SLOT + check_names::own_of(m), value);
+            let t = if kind == kinds::LOOP {
+                ValueType::Num
+            } else {
+                check_names::type_of(m)
+            };
+            Ok((t, at + 1))
+        }
     }
-    if kind == kinds::ERROR_NUMBER {
-        set_head(code, at, ops::LITERAL, value + parts::BIAS);
-        return Judged::Typed(types::NUM, at + 1);
-    }
-    set_head(code, at, ops::MODULE_SLOT + check_names::own_of(m), value);
-    if kind == kinds::LOOP {
-        return Judged::Typed(types::NUM, at + 1);
-    }
-    Judged::Typed(check_names::type_of(m), at + 1)
 }
 
 fn literal(code: &mut [u8], at: usize) -> Judged
@@ -188,17 +153,13 @@ fn literal(code: &mut [u8], at: usize) -> Judged
     ensures { Literal code.old code.new at result }
 {
     let w = store_reading::head(code, at);
-    let s = w % parts::VALUE;
-    if s == text_sorts::NUMBER {
-        set_head(code, at, ops::LITERAL, w / parts::VALUE + parts::BIAS);
-        return Judged::Typed(types::NUM, at + 1);
-    }
-    if s == text_sorts::TRUE {
-        set_head(code, at, ops::LITERAL, 1 + parts::BIAS);
-        return Judged::Typed(types::BOOL, at + 1);
-    }
-    set_head(code, at, ops::LITERAL, parts::BIAS);
-    Judged::Typed(types::BOOL, at + 1)
+    let (t, value) = match w % parts::VALUE {
+        text_sorts::NUMBER => (ValueType::Num, w / parts::VALUE),
+        text_sorts::TRUE => (ValueType::Bool, 1),
+        _ => (ValueType::Bool, 0),
+    };
+    set_head(code, at, ops::LITERAL, value + parts::BIAS);
+    Ok((t, at + 1))
 }
 
 // ---- operands of several words, by the answer of what stands inside
@@ -207,11 +168,9 @@ fn nested(code: &mut [u8], inner: Judged, at: usize) -> Judged
     requires { (at * 8 + 8 ≤ length code.old) × Short inner }
     ensures { Nested code.old code.new inner at result }
 {
-    let Judged::Typed(t, end) = inner else {
-        return inner;
-    };
+    let (t, end) = inner?;
     set_word(code, at, ops::PARENTHESIS, 0, end);
-    Judged::Typed(t, end + 1)
+    Ok((t, end + 1))
 }
 
 // NOT or a sign, by its sort.
@@ -219,33 +178,26 @@ fn signed(code: &mut [u8], s: u32, inner: Judged, at: usize) -> Judged
     requires { (at * 8 + 8 ≤ length code.old) × (at < word_limit) × Short inner }
     ensures { Signed code.old code.new s inner at result }
 {
-    let Judged::Typed(t, end) = inner else {
-        return inner;
-    };
+    let (t, end) = inner?;
     if t != sign_type(s) {
-        return Judged::Faulty(rules::WRONG_TYPE, at + 1);
+        return Err(Breach {
+            rule: Rule::WrongType,
+            word: at + 1,
+        });
     }
     set_word(code, at, prefix_of(s), 0, end);
-    Judged::Typed(t, end)
+    Ok((t, end))
 }
 
-// The rule that a name of this kind breaks before an index, 0 for none.
-fn breaks_indexed(kind: u32, only: bool) -> u32
+// The rule that a name of this kind breaks before an index.
+fn breaks_indexed(kind: u32, only: bool) -> Option<Rule>
     ensures { BreaksIndexed kind only result }
 {
-    if kind == 0 {
-        return rules::UNKNOWN_NAME;
+    match kind {
+        kinds::ARRAY if !only => None,
+        kinds::VARIABLE..=kinds::ERROR_NUMBER => Some(Rule::WrongKind),
+        _ => Some(Rule::UnknownName),
     }
-    if kinds::ERROR_NUMBER < kind {
-        return rules::UNKNOWN_NAME;
-    }
-    if kind != kinds::ARRAY {
-        return rules::WRONG_KIND;
-    }
-    if only {
-        return rules::WRONG_KIND;
-    }
-    0
 }
 
 // An array, of which the table says m, and its index.
@@ -253,11 +205,12 @@ fn indexed(code: &mut [u8], m: u32, inner: Judged, at: usize) -> Judged
     requires { (at * 8 + 8 ≤ length code.old) × (at < word_limit) × Short inner }
     ensures { Indexed code.old code.new m inner at result }
 {
-    let Judged::Typed(t, end) = inner else {
-        return inner;
-    };
-    if t != types::NUM {
-        return Judged::Faulty(rules::WRONG_TYPE, at + 2);
+    let (t, end) = inner?;
+    if t != ValueType::Num {
+        return Err(Breach {
+            rule: Rule::WrongType,
+            word: at + 2,
+        });
     }
     set_word(
         code,
@@ -266,7 +219,7 @@ fn indexed(code: &mut [u8], m: u32, inner: Judged, at: usize) -> Judged
         check_names::value_of(m),
         end,
     );
-    Judged::Typed(check_names::type_of(m), end + 1)
+    Ok((check_names::type_of(m), end + 1))
 }
 
 // ---- an operator and its two sides
@@ -286,18 +239,19 @@ fn tie(code: &mut [u8], s: u32, i: usize, n: usize)
 }
 
 // The operator at i, of level l, asks for this type, which its left side has.
-fn join(code: &mut [u8], s: u32, l: u32, wants: Type, right: Judged, i: usize) -> Judged
+fn join(code: &mut [u8], s: u32, l: u32, wants: ValueType, right: Judged, i: usize) -> Judged
     requires { Right code.old s l i right }
     ensures { Joined code.old code.new s wants i right result }
 {
-    let Judged::Typed(t, end) = right else {
-        return right;
-    };
+    let (t, end) = right?;
     if t != wants {
-        return Judged::Faulty(rules::WRONG_TYPE, i + 1);
+        return Err(Breach {
+            rule: Rule::WrongType,
+            word: i + 1,
+        });
     }
     tie(code, s, i, end);
-    Judged::Typed(given(l), end)
+    Ok((given(l), end))
 }
 
 // ---- expressions
@@ -316,9 +270,8 @@ fn begin(code: &mut [u8], values: &[u8], only: bool, at: usize, nesting: usize) 
         if sort(code, at + 1) != text_sorts::OPEN_BRACE {
             return plain(code, m, only, at);
         }
-        let broken = breaks_indexed(check_names::kind_of(m), only);
-        if broken != 0 {
-            return Judged::Faulty(broken, at);
+        if let Some(rule) = breaks_indexed(check_names::kind_of(m), only) {
+            return Err(Breach { rule, word: at });
         }
         let index = climb(
             code,
@@ -341,8 +294,7 @@ fn begin(code: &mut [u8], values: &[u8], only: bool, at: usize, nesting: usize) 
         );
         return nested(code, inner, at);
     }
-    let l = covered(s);
-    if l != 0 {
+    if let Some(l) = covered(s) {
         let part = climb(code, values, only, l, at + 1, nesting);
         return signed(code, s, part, at);
     }
@@ -362,25 +314,22 @@ fn climb(
     requires { StandsUnder nesting code.old values.now level at }
     ensures { CheckedUnder nesting code.old values.now code.new only level at result }
 {
-    let mut left = begin(code, values, only, at, nesting);
+    let (mut t, mut i) = begin(code, values, only, at, nesting)?;
     loop {
-        let Judged::Typed(t, i) = left else {
-            return left;
-        };
         let s = sort(code, i);
-        let l = level_of(s);
-        if l == 0 {
-            return left;
-        }
-        if level < l {
-            return left;
+        let l = text_sorts::level_of(s);
+        if l == levels::NONE || level < l {
+            return Ok((t, i));
         }
         let wants = asked(s, l, t);
         if t != wants {
-            return Judged::Faulty(rules::WRONG_TYPE, at);
+            return Err(Breach {
+                rule: Rule::WrongType,
+                word: at,
+            });
         }
         let right = climb(code, values, only, l - 1, i + 1, nesting);
-        left = join(code, s, l, wants, right, i);
+        (t, i) = join(code, s, l, wants, right, i)?;
     }
 }
 
@@ -393,16 +342,16 @@ pub fn expression(code: &mut [u8], values: &[u8], only: bool, level: u32, at: us
 }
 
 // An expression of a type.
-pub fn of_type(code: &mut [u8], values: &[u8], only: bool, wants: Type, at: usize) -> Judged
+pub fn of_type(code: &mut [u8], values: &[u8], only: bool, wants: ValueType, at: usize) -> Judged
     requires { Stands code.old values.now disjunctions at }
     ensures { OfType code.old values.now code.new only wants at result }
 {
-    let r = expression(code, values, only, levels::DISJUNCTIONS, at);
-    let Judged::Typed(t, end) = r else {
-        return r;
-    };
+    let (t, end) = expression(code, values, only, levels::DISJUNCTIONS, at)?;
     if t != wants {
-        return Judged::Faulty(rules::WRONG_TYPE, at);
+        return Err(Breach {
+            rule: Rule::WrongType,
+            word: at,
+        });
     }
-    Judged::Typed(t, end)
+    Ok((t, end))
 }

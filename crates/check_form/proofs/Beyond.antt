@@ -1,28 +1,28 @@
 -- Reading moves on: each part that is read ends behind where it starts. So no loop of the parser runs out of turns, and it reads as if it had no end.
-use mathlib.Core.Path.{◌≡◌, refl, sym, ap, ◌∙◌}
+use mathlib.Core.Path.{◌≡◌, refl}
 use mathlib.Core.Bool.{Bool, true, false}
 use Prim.Native.Nat.{ℕ, zero, suc, ◌+◌, ◌-◌, ◌<◌, ◌≤◌}
 use native.Mathlib.Omega.{arith}
 use lib.Dec.{eqb}
-use borrow.Author.Tests.{eqb-true, eqb-false}
-use Rattle.laws.proofs.Tests.{test, by_less, apart}
+use Rattle.laws.proofs.Tests.{apart}
 use Rattle.std.specs.Prelude.{if◌then◌else◌}
 use Rattle.paper.specs.Sorts.{NOTHING}
 use Rattle.paper.specs.Expressions.{level_of, is_literal, is_type, stands_before, parts}
-use Rattle.check_form.specs.declared.Read.{Read}
-use Rattle.check_form.specs.declared.Read.TheVariants.{Upto, Refused}
-use Rattle.check_form.specs.Places.{◌▸◌, turns, started_by, word, type_word, operand, chain_turn, chain, prefixed, level, expression_in}
+use Rattle.std.specs.Prelude.{Ok, Err}
+use Rattle.layout.specs.declared.rules.Breach.{Breach}
+use Rattle.layout.specs.declared.rules.Rule.TheVariants.{NoForm, DeepNesting}
+use Rattle.check_form.specs.Places.{Read, breach, ◌▸◌, turns, started_by, word, type_word, operand, chain_turn, chain, prefixed, level, expression_in}
 use Rattle.paper.specs.Words.{word_limit}
 
 -- ---- ends
 
 abbrev pub Beyond : ℕ → Read → Type 0
-Beyond lo r = (n : ℕ) → r ≡ Upto n → lo ≤ n
+Beyond lo r = (n : ℕ) → r ≡ Ok n → lo ≤ n
 
-pub refuses : (lo k i : ℕ) → Beyond lo (Refused k i)
-refuses lo k i n e = apart (cc)
+pub refuses : (lo : ℕ) (b : Breach) → Beyond lo (Err b)
+refuses lo b n e = apart (cc)
 
-pub ends : (lo m : ℕ) → lo ≤ m → Beyond lo (Upto m)
+pub ends : (lo m : ℕ) → lo ≤ m → Beyond lo (Ok m)
 ends lo m h n e = let q : m ≡ n = cc in omega (arith, q)
 
 pub sooner : {lo : ℕ} {r : Read} (low : ℕ) → low ≤ lo → Beyond lo r → Beyond low r
@@ -34,8 +34,8 @@ either false f g = g
 
 pub follows : {lo mid : ℕ} {f : ℕ → Read} (r : Read) → Beyond mid r → ((n : ℕ) → mid ≤ n → Beyond lo (f n)) → Beyond lo (r ▸ f)
 unfolding ◌▸◌
-follows (Upto n) h g = g n (h n refl)
-follows {lo} (Refused k i) h g = refuses lo k i
+follows (Ok n) h g = g n (h n refl)
+follows {lo} (Err b) h g = refuses lo b
 
 -- what stands or moves on keeps what is behind
 pub on : {lo : ℕ} {r : Read} {f : ℕ → Read} → Beyond lo r → ((n : ℕ) → Beyond n (f n)) → Beyond lo (r ▸ f)
@@ -46,15 +46,15 @@ strictly g n m e = omega (arith, g n m e)
 
 pub same_after : {f g : ℕ → Read} {mid : ℕ} (r : Read) → Beyond mid r → ((n : ℕ) → mid ≤ n → f n ≡ g n) → (r ▸ f) ≡ (r ▸ g)
 unfolding ◌▸◌
-same_after (Upto n) h e = e n (h n refl)
-same_after (Refused k i) h e = refl
+same_after (Ok n) h e = e n (h n refl)
+same_after (Err b) h e = refl
 
 -- ---- loops
 
 pub turns-on : (turn : (ℕ → Read) → ℕ → Read) → ((again : ℕ → Read) → ((n : ℕ) → Beyond n (again n)) → (at : ℕ) → Beyond at (turn again at))
     → (p at : ℕ) → Beyond at (turns turn p at)
 unfolding turns
-turns-on turn h zero at = refuses at 8 at
+turns-on turn h zero at = refuses at (breach NoForm at)
 turns-on turn h (suc p) at = h (turns turn p) (turns-on turn h p) at
 
 module _ (words : ℕ) where
@@ -87,11 +87,11 @@ pub record Kind (W : ℕ → ℕ) (starts : ℕ → Bool) (of : (sort : ℕ) →
 module _ (W : ℕ → ℕ) where
   pub word_on : (s at : ℕ) → Beyond (suc at) (word W s at)
   unfolding word
-  word_on s at = either (eqb (W at) s) (ends (suc at) (at + 1) (omega arith)) (refuses (suc at) 8 at)
+  word_on s at = either (eqb (W at) s) (ends (suc at) (at + 1) (omega arith)) (refuses (suc at) (breach NoForm at))
 
   pub type-on : (at : ℕ) → Beyond (suc at) (type_word W at)
   unfolding type_word
-  type-on at = either (is_type (W at)) (ends (suc at) (at + 1) (omega arith)) (refuses (suc at) 8 at)
+  type-on at = either (is_type (W at)) (ends (suc at) (at + 1) (omega arith)) (refuses (suc at) (breach NoForm at))
 
   -- ---- expressions
 
@@ -105,7 +105,7 @@ module _ (W : ℕ → ℕ) where
         (ends (suc at) (at + 1) (omega arith)))
         (either (eqb (W at) 6)
         (on (sooner (suc at) (omega arith) (inner-on (at + 1))) (strictly (word_on 7)))
-        (either (is_literal (W at)) (ends (suc at) (at + 1) (omega arith)) (refuses (suc at) 8 at)))
+        (either (is_literal (W at)) (ends (suc at) (at + 1) (omega arith)) (refuses (suc at) (breach NoForm at))))
 
     chain-turn-on : (j : ℕ) (sub : ℕ → Read) → ((at : ℕ) → Beyond (suc at) (sub at))
         → (again : ℕ → Read) → ((n : ℕ) → Beyond n (again n)) → (at : ℕ) → Beyond at (chain_turn W j sub again at)
@@ -128,5 +128,5 @@ module _ (W : ℕ → ℕ) where
 
   pub nested-on : (d at : ℕ) → Beyond (suc at) (expression_in W d at)
   unfolding expression_in
-  nested-on zero at = refuses (suc at) 9 (at - 1)
+  nested-on zero at = refuses (suc at) (breach DeepNesting (at - 1))
   nested-on (suc d) at = level-on (expression_in W d) (nested-on d) 5 at

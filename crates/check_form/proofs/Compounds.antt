@@ -2,55 +2,56 @@
 use mathlib.Core.Path.{◌≡◌, refl, sym, ap, ◌∙◌}
 use mathlib.Core.Bool.{Bool, true, false}
 use mathlib.Core.List.{List}
-use Prim.Native.Nat.{ℕ, zero, suc, ◌+◌, ◌-◌, ◌<◌, ◌≤◌}
+use Prim.Native.Nat.{ℕ, suc, ◌+◌, ◌-◌, ◌<◌, ◌≤◌}
 use native.Mathlib.Omega.{arith}
 use lib.Dec.{eqb}
-use borrow.Author.Tests.{eqb-true, eqb-false, eq-eqb, ne_eqb}
-use Rattle.laws.proofs.Tests.{test, by_less, apart, false-true}
+use borrow.Author.Tests.{eqb-true, eqb-false, ne_eqb}
+use Rattle.laws.proofs.Tests.{test, false-true}
 use Rattle.std.specs.Prelude.{if◌then◌else◌}
 use Rattle.paper.specs.Expressions.{starts_simple}
-use Rattle.check_form.specs.declared.Read.{Read}
-use Rattle.check_form.specs.declared.Read.TheVariants.{Upto, Refused}
+use Rattle.std.specs.Prelude.{Ok, Err}
+use Rattle.layout.specs.declared.rules.Breach.{Breach}
 use Rattle.check_form.specs.declared.Part.{Part}
 use Rattle.check_form.specs.declared.Part.TheVariants as part
-use Rattle.check_form.specs.Places.{Lent, sorts_in, ◌▸◌, ◌▹◌, turns, word, expression_in, expressions, simple, arm_end, case_end, list_end, for_head, condition, if_head, test_head, opened}
-use Rattle.check_form.specs.Places.{else_part, after_arm, arms_turn, arms, default_part, cases_turn, cases, ending, resume, starts_compound, list_turn, list_below, compound}
+use Rattle.text_sorts.specs.Starts.{starts_compound}
+use Rattle.check_form.specs.Places.{Read, Parted, ended, entered, Lent, sorts_in, ◌▸◌, ◌▹◌, word, expression_in, expressions, simple, arm_end, case_end, list_end, condition, if_head, test_head, opened}
+use Rattle.check_form.specs.Places.{else_part, after_arm, arms_turn, arms, default_part, cases_turn, cases, ending, resume, list_turn, list_below, compound}
 use Rattle.check_form.proofs.Beyond.{Beyond, same_after, sooner, on, strictly, Local, endless, word_on, nested-on}
 use Rattle.check_form.proofs.Reading.{within}
-use Rattle.check_form.proofs.Moves.{expressions-on, simple-on, list-end-on, list_on, compound-on, reached, Ahead}
+use Rattle.check_form.proofs.Moves.{expressions-on, simple-on, list-end-on, list_on, compound-on, reached}
 
 -- ---- what a part may be
 
 -- A list is entered only where one may nest, and some word closes it.
-unfoldable pub Shaped : (deeper : ℕ) → Part → Type 0
-Shaped d (part.Whole n) = d ≡ d
-Shaped d (part.Refused k i) = d ≡ d
-Shaped d (part.Inside c n) = (0 < d) × (0 < c)
+unfoldable pub Shaped : (deeper : ℕ) → Parted → Type 0
+Shaped d (Ok (part.Whole n)) = d ≡ d
+Shaped d (Err b) = d ≡ d
+Shaped d (Ok (part.Inside c n)) = (0 < d) × (0 < c)
 
-pub shaped-deep : (d c n : ℕ) (p : Part) → Shaped d p → p ≡ part.Inside c n → 0 < d
+pub shaped-deep : (d c n : ℕ) (p : Parted) → Shaped d p → p ≡ entered c n → 0 < d
 unfolding Shaped
 shaped-deep d c n p s e = (rw e at s).0
 
-pub shaped-closes : (d c n : ℕ) (p : Part) → Shaped d p → p ≡ part.Inside c n → 0 < c
+pub shaped-closes : (d c n : ℕ) (p : Parted) → Shaped d p → p ≡ entered c n → 0 < c
 unfolding Shaped
 shaped-closes d c n p s e = (rw e at s).1
 
-whole-shaped : (d : ℕ) (r : Read) → Shaped d (r ▹ part.Whole)
+whole-shaped : (d : ℕ) (r : Read) → Shaped d (r ▹ ended)
 unfolding Shaped ◌▹◌
-whole-shaped d (Upto n) = refl
-whole-shaped d (Refused k i) = refl
+whole-shaped d (Ok n) = refl
+whole-shaped d (Err b) = refl
 
-inside-shaped : (d c : ℕ) (r : Read) → 0 < d → 0 < c → Shaped d (r ▹ part.Inside c)
+inside-shaped : (d c : ℕ) (r : Read) → 0 < d → 0 < c → Shaped d (r ▹ entered c)
 unfolding Shaped ◌▹◌
-inside-shaped d c (Upto n) h g = (h, g)
-inside-shaped d c (Refused k i) h g = refl
+inside-shaped d c (Ok n) h g = (h, g)
+inside-shaped d c (Err b) h g = refl
 
-shaped-after : (d : ℕ) (r : Read) (f : ℕ → Part) → ((n : ℕ) → Shaped d (f n)) → Shaped d (r ▹ f)
+shaped-after : (d : ℕ) (r : Read) (f : ℕ → Parted) → ((n : ℕ) → Shaped d (f n)) → Shaped d (r ▹ f)
 unfolding Shaped ◌▹◌
-shaped-after d (Upto n) f h = h n
-shaped-after d (Refused k i) f h = refl
+shaped-after d (Ok n) f h = h n
+shaped-after d (Err b) f h = refl
 
-shaped-if : (d : ℕ) (b : Bool) (p q : Part) → Shaped d p → Shaped d q → Shaped d (if b then p else q)
+shaped-if : (d : ℕ) (b : Bool) (p q : Parted) → Shaped d p → Shaped d q → Shaped d (if b then p else q)
 shaped-if d true p q h g = h
 shaped-if d false p q h g = g
 
@@ -122,21 +123,21 @@ module _ (code : List ℕ) (words : ℕ) (lent : Lent code words) where
     cases-is at = endless words (cases_turn W list) cases-local lent.few at
 
     -- into a list, or to the end
-    into : (r : Read) (c : ℕ) (f : ℕ → Read) → ((n : ℕ) → f n ≡ (list n ▸ ending W list c)) → (r ▸ f) ≡ resume W list (r ▹ part.Inside c)
+    into : (r : Read) (c : ℕ) (f : ℕ → Read) → ((n : ℕ) → f n ≡ (list n ▸ ending W list c)) → (r ▸ f) ≡ resume W list (r ▹ entered c)
     unfolding ◌▸◌ ◌▹◌ resume
-    into (Upto n) c f h = h n
-    into (Refused k i) c f h = refl
+    into (Ok n) c f h = h n
+    into (Err b) c f h = refl
 
-    pub to_end : (r : Read) → r ≡ resume W list (r ▹ part.Whole)
+    pub to_end : (r : Read) → r ≡ resume W list (r ▹ ended)
     unfolding ◌▹◌ resume
-    to_end (Upto n) = refl
-    to_end (Refused k i) = refl
+    to_end (Ok n) = refl
+    to_end (Err b) = refl
 
     -- a list that only its closing word ends
     pub closing : (c : ℕ) → (c ≡ 42 → ⊥) → (c ≡ 35 → ⊥) → (r : Read) → (r ▸ word W c) ≡ (r ▸ ending W list c)
     unfolding ◌▸◌ ending
-    closing c h g (Upto n) = rw (ne_eqb c 42 h, ne_eqb c 35 g)
-    closing c h g (Refused k i) = refl
+    closing c h g (Ok n) = rw (ne_eqb c 42 h, ne_eqb c 35 g)
+    closing c h g (Err b) = refl
 
     pub arm-again : (n : ℕ) → arms W list n ≡ (list n ▸ ending W list 42)
     unfolding ending
@@ -155,10 +156,10 @@ module _ (code : List ℕ) (words : ℕ) (lent : Lent code words) where
         (λ u. rw u (closing 45 (λ z. omega arith) (λ z. omega arith) (list (at + 1))))
         (λ u. rw u (to_end (word W 45 at)))))
 
-    pub into-list : (r : Read) (c : ℕ) (f : ℕ → Read) → ((n : ℕ) → (list n ▸ f) ≡ (list n ▸ ending W list c)) → (r ▸ list ▸ f) ≡ resume W list (r ▹ part.Inside c)
+    pub into-list : (r : Read) (c : ℕ) (f : ℕ → Read) → ((n : ℕ) → (list n ▸ f) ≡ (list n ▸ ending W list c)) → (r ▸ list ▸ f) ≡ resume W list (r ▹ entered c)
     unfolding ◌▸◌ ◌▹◌ resume
-    into-list (Upto n) c f h = h n
-    into-list (Refused k i) c f h = refl
+    into-list (Ok n) c f h = h n
+    into-list (Err b) c f h = refl
 
     pub case-rest : (at : ℕ) → cases W list at ≡ resume W list (case_end W at)
     unfolding cases_turn case_end default_part ◌▸◌
@@ -178,52 +179,52 @@ module _ (code : List ℕ) (words : ℕ) (lent : Lent code words) where
   -- ---- the code's loop over the lists of a compound statement
 
   -- a list is entered only behind a word
-  is-inside : Part → Bool
-  is-inside (part.Whole n) = false
-  is-inside (part.Refused k i) = false
-  is-inside (part.Inside c n) = true
+  is-inside : Parted → Bool
+  is-inside (Ok (part.Whole n)) = false
+  is-inside (Err b) = false
+  is-inside (Ok (part.Inside c n)) = true
 
   end-nothing : (c m : ℕ) → W m ≡ 0 → is-inside (list_end W c m) ≡ false
   unfolding list_end arm_end case_end word ◌▹◌ is-inside
   end-nothing c m z =
       test (eqb c 42) (λ t. rw (t, z)) (λ t. rw t (test (eqb c 35) (λ u. rw (u, z)) (λ u. rw (u, z) (test (eqb 0 c) (λ w. rw w) (λ w. rw w)))))
 
-  end-in : (c m k n : ℕ) → list_end W c m ≡ part.Inside k n → m < words
+  end-in : (c m k n : ℕ) → list_end W c m ≡ entered k n → m < words
   unfolding is-inside
   end-in c m k n e = within code words m (λ z. false-true (sym (end-nothing c m z) ∙ ap is-inside e))
 
 unfoldable pub room : ℕ → Part → ℕ
 room words (part.Whole n) = 0
-room words (part.Refused k i) = 0
 room words (part.Inside c n) = suc (words - n)
 
 pub record Resumes (code : List ℕ) (words d at : ℕ) (p : Part) : Type 0 where
-  pub rest : compound (sorts_in code words) d at ≡ resume (sorts_in code words) (list_below (sorts_in code words) d) p
-  pub shape : Shaped d p
+  pub rest : compound (sorts_in code words) d at ≡ resume (sorts_in code words) (list_below (sorts_in code words) d) (Ok p)
+  pub shape : Shaped d (Ok p)
 
 module _ (code : List ℕ) (words : ℕ) (lent : Lent code words) (d at : ℕ) where
-  pub begins : (p : Part) → p ≡ opened (sorts_in code words) d at → Resumes code words d at p
-  unfolding compound
-  begins p e = record {
-    rest = ap (resume (sorts_in code words) (list_below (sorts_in code words) d)) (sym e);
-    shape = rw e (open-shaped (sorts_in code words) d at);
-  }
+  module _ (r : Parted) (e : r ≡ opened (sorts_in code words) d at) where
+    pub begins : (p : Part) → r ≡ Ok p → Resumes code words d at p
+    unfolding compound
+    begins p h = record {
+      rest = ap (resume (sorts_in code words) (list_below (sorts_in code words) d)) (sym e ∙ h);
+      shape = rw (sym h ∙ e) (open-shaped (sorts_in code words) d at);
+    }
+
+    pub begins-refused : (b : Breach) → r ≡ Err b → Err b ≡ compound (sorts_in code words) d at
+    unfolding compound resume
+    begins-refused b h = sym (ap (resume (sorts_in code words) (list_below (sorts_in code words) d)) (sym e ∙ h))
 
   module _ (p : Part) (l : Resumes code words d at p) where
-    pub whole-left : (n : ℕ) → p ≡ part.Whole n → Upto n ≡ compound (sorts_in code words) d at
+    pub whole-left : (n : ℕ) → p ≡ part.Whole n → Ok n ≡ compound (sorts_in code words) d at
     unfolding resume
     whole-left n e = sym (l.rest ∙ rw e)
 
-    pub refused-left : (k i : ℕ) → p ≡ part.Refused k i → Refused k i ≡ compound (sorts_in code words) d at
-    unfolding resume
-    refused-left k i e = sym (l.rest ∙ rw e)
-
     module _ (c n : ℕ) (e : p ≡ part.Inside c n) where
       pub deep : 0 < d
-      deep = shaped-deep d c n p l.shape e
+      deep = shaped-deep d c n (Ok p) l.shape (ap (λ (x : Part). Ok x) e)
 
       pub closes : 0 < c
-      closes = shaped-closes d c n p l.shape e
+      closes = shaped-closes d c n (Ok p) l.shape (ap (λ (x : Part). Ok x) e)
 
       module _ (r : Read) (f : r ≡ list_below (sorts_in code words) (suc (d - 1)) n) where
         its : r ≡ list_below (sorts_in code words) d n
@@ -233,32 +234,41 @@ module _ (code : List ℕ) (words : ℕ) (lent : Lent code words) (d at : ℕ) w
         unfolding resume
         inside = l.rest ∙ rw e
 
-        pub list-refused : (k i : ℕ) → r ≡ Refused k i → r ≡ compound (sorts_in code words) d at
+        pub list-refused : (b : Breach) → r ≡ Err b → Err b ≡ compound (sorts_in code words) d at
         unfolding ◌▸◌
-        list-refused k i h = h ∙ sym (inside ∙ rw (sym its ∙ h))
+        list-refused b h = sym (inside ∙ rw (sym its ∙ h))
 
-        module _ (m : ℕ) (h : r ≡ Upto m) (q : Part) (g : q ≡ list_end (sorts_in code words) c m) where
-          pub list_left : Resumes code words d at q
+        module _ (m : ℕ) (h : r ≡ Ok m) (q : Parted) (g : q ≡ list_end (sorts_in code words) c m) where
+          left : compound (sorts_in code words) d at ≡ resume (sorts_in code words) (list_below (sorts_in code words) d) q
           unfolding ◌▸◌
-          list_left = record {
-            rest = inside ∙ rw (sym its ∙ h) (end_rest code words lent (list_below (sorts_in code words) d) (list_on (sorts_in code words) d) c m)
-                ∙ ap (resume (sorts_in code words) (list_below (sorts_in code words) d)) (sym g);
-            shape = rw g (end-shaped (sorts_in code words) d deep c m);
-          }
+          left =
+              inside ∙ rw (sym its ∙ h) (end_rest code words lent (list_below (sorts_in code words) d) (list_on (sorts_in code words) d) c m)
+              ∙ ap (resume (sorts_in code words) (list_below (sorts_in code words) d)) (sym g)
 
-          less : (x : Part) → q ≡ x → room words x < suc (words - n)
-          unfolding room reached
-          less (part.Whole j) y = omega arith
-          less (part.Refused k i) y = omega arith
-          less (part.Inside k j) y =
-              let a : m < words = end-in code words lent c m k j (sym g ∙ y) in
-              let b : suc m ≤ j = (list-end-on (sorts_in code words) c m).far j (ap reached (sym g ∙ y)) in
-              let z : n ≤ m = list_on (sorts_in code words) d n m (sym its ∙ h) in
-              omega arith
+          pub end-refused : (b : Breach) → q ≡ Err b → Err b ≡ compound (sorts_in code words) d at
+          unfolding resume
+          end-refused b y = sym (left ∙ rw y)
 
-          pub list-less : room words q < room words p
-          unfolding room
-          list-less = rw e (less q refl)
+          module _ (s : Part) (y : q ≡ Ok s) where
+            pub list_left : Resumes code words d at s
+            list_left = record {
+              rest = rw y at left;
+              shape = rw (sym y ∙ g) (end-shaped (sorts_in code words) d deep c m);
+            }
+
+            less : (x : Part) → s ≡ x → room words x < suc (words - n)
+            unfolding room reached
+            less (part.Whole j) z = omega arith
+            less (part.Inside k j) z =
+                let a : list_end (sorts_in code words) c m ≡ entered k j = sym g ∙ y ∙ ap (λ (x : Part). Ok x) z in
+                let b : m < words = end-in code words lent c m k j a in
+                let f : suc m ≤ j = (list-end-on (sorts_in code words) c m).far j (ap reached a) in
+                let w : n ≤ m = list_on (sorts_in code words) d n m (sym its ∙ h) in
+                omega arith
+
+            pub list-less : room words s < room words p
+            unfolding room
+            list-less = rw e (less s refl)
 
 -- ---- the code's loop over the statements of a list
 
@@ -297,22 +307,22 @@ module _ (code : List ℕ) (words : ℕ) (lent : Lent code words) (d : ℕ) wher
         unfolding list_turn
         on-compound = left ∙ list-is n ∙ rw (compound-is ∙ q, list_turn)
 
-        pub compound-refused : (k i : ℕ) → r ≡ Refused k i → r ≡ x
+        pub compound-refused : (b : Breach) → r ≡ Err b → Err b ≡ x
         unfolding ◌▸◌
-        compound-refused k i h = h ∙ sym (on-compound ∙ rw (sym e ∙ h))
+        compound-refused b h = sym (on-compound ∙ rw (sym e ∙ h))
 
-        pub compound-left : (m : ℕ) → r ≡ Upto m → x ≡ list_below (sorts_in code words) (suc d) m
+        pub compound-left : (m : ℕ) → r ≡ Ok m → x ≡ list_below (sorts_in code words) (suc d) m
         unfolding ◌▸◌
         compound-left m h = on-compound ∙ rw (sym e ∙ h)
 
-        pub compound-less : (m : ℕ) → r ≡ Upto m → words - m < words - n
+        pub compound-less : (m : ℕ) → r ≡ Ok m → words - m < words - n
         compound-less m h = omega (arith, compound-in, compound-on (sorts_in code words) d n m (sym e ∙ h))
 
     module _ (q : b ≡ false) (b' : Bool) (s' : b' ≡ starts_simple v) where
       simple-is : starts_simple (sorts_in code words n) ≡ b'
       simple-is = ap starts_simple (sym w) ∙ sym s'
 
-      pub list-ends : b' ≡ false → Upto n ≡ x
+      pub list-ends : b' ≡ false → Ok n ≡ x
       unfolding list_turn
       list-ends q' = sym (left ∙ list-is n ∙ rw (compound-is ∙ q, list_turn) (rw (simple-is ∙ q')))
 
@@ -321,13 +331,13 @@ module _ (code : List ℕ) (words : ℕ) (lent : Lent code words) (d : ℕ) wher
         unfolding list_turn
         on-simple = left ∙ list-is n ∙ rw (compound-is ∙ q, list_turn) (rw (simple-is ∙ q'))
 
-        pub simple-refused : (k i : ℕ) → r ≡ Refused k i → r ≡ x
+        pub simple-refused : (b : Breach) → r ≡ Err b → Err b ≡ x
         unfolding ◌▸◌
-        simple-refused k i h = h ∙ sym (on-simple ∙ rw (sym e ∙ h))
+        simple-refused b h = sym (on-simple ∙ rw (sym e ∙ h))
 
-        pub simple-left : (m : ℕ) → r ≡ Upto m → x ≡ list_below (sorts_in code words) (suc d) m
+        pub simple-left : (m : ℕ) → r ≡ Ok m → x ≡ list_below (sorts_in code words) (suc d) m
         unfolding ◌▸◌
         simple-left m h = on-simple ∙ rw (sym e ∙ h)
 
-        pub simple-less : (m : ℕ) → r ≡ Upto m → words - m < words - n
+        pub simple-less : (m : ℕ) → r ≡ Ok m → words - m < words - n
         simple-less m h = omega (arith, simple-there n (simple-is ∙ q'), simple-on (sorts_in code words) n m (sym e ∙ h))

@@ -2,20 +2,19 @@
 use mathlib.Core.Path.{◌≡◌, refl, sym, ap, ◌∙◌}
 use mathlib.Core.Bool.{Bool, true, false, ◌||◌}
 use mathlib.Core.List.{List}
-use Prim.Native.Nat.{ℕ, zero, suc, ◌+◌, ◌-◌, ◌*◌, ◌<◌, ◌≤◌}
+use Prim.Native.Nat.{ℕ, suc, ◌+◌, ◌-◌, ◌<◌, ◌≤◌}
 use native.Mathlib.Omega.{arith}
 use lib.Dec.{eqb}
 use mir.Syntax.{w64}
 use mir.Val.{Fits}
-use borrow.Author.Tests.{eqb-true, eqb-false, eq-eqb, ne_eqb}
-use Rattle.laws.proofs.Tests.{test, by-same, apart}
-use Rattle.std.specs.Prelude.{if◌then◌else◌}
+use borrow.Author.Tests.{eqb-true, eq-eqb, ne_eqb}
+use Rattle.laws.proofs.Tests.{test, by-same}
 use Rattle.paper.specs.Sorts.{NOT}
-use Rattle.paper.specs.Expressions.{level_of, is_literal, stands_before}
-use Rattle.layout.specs.Rules.{deep_nesting}
-use Rattle.check_form.specs.declared.Read.{Read}
-use Rattle.check_form.specs.declared.Read.TheVariants.{Upto, Refused}
-use Rattle.check_form.specs.Places.{Lent, sorts_in, ◌▸◌, turns, word, operand, chain_turn, chain, prefixed, level, expression_in, behind_not, behind_sign, rest}
+use Rattle.paper.specs.Expressions.{level_of, stands_before}
+use Rattle.std.specs.Prelude.{Ok, Err}
+use Rattle.layout.specs.declared.rules.Breach.{Breach}
+use Rattle.layout.specs.declared.rules.Rule.TheVariants.{DeepNesting}
+use Rattle.check_form.specs.Places.{Read, breach, Lent, sorts_in, ◌▸◌, operand, chain_turn, chain, prefixed, level, expression_in, behind_not, behind_sign, rest}
 use Rattle.check_form.proofs.Beyond.{Beyond, same_after, Local, endless, operand_on, level-on, nested-on}
 use Rattle.check_form.proofs.Reading.{within}
 
@@ -46,7 +45,7 @@ module _ (code : List ℕ) (words : ℕ) (lent : Lent code words) where
     unfolding chain
     chain-is j at p = endless words (chain_turn W j (level W inner (j - 1))) (chain-local j (level W inner (j - 1)) (level-on W inner inner-on (j - 1)) p) lent.few at
 
-    stop : (j at : ℕ) → 0 < j → (level_of (W at) ≡ j → ⊥) → C j at ≡ Upto at
+    stop : (j at : ℕ) → 0 < j → (level_of (W at) ≡ j → ⊥) → C j at ≡ Ok at
     unfolding chain_turn
     stop j at p h = chain-is j at p ∙ rw (ne_eqb (level_of (W at)) j h, chain_turn)
 
@@ -85,15 +84,15 @@ module _ (code : List ℕ) (words : ℕ) (lent : Lent code words) where
     -- ---- what follows an operand
     all : (r : Read) → (r ▸ rest W inner false) ≡ (r ▸ C 1 ▸ C 2 ▸ C 3 ▸ C 4 ▸ C 5)
     unfolding ◌▸◌ rest
-    all (Upto n) = refl
-    all (Refused k i) = refl
+    all (Ok n) = refl
+    all (Err b) = refl
 
     but-relations : (r : Read) → (r ▸ rest W inner true) ≡ (r ▸ C 1 ▸ C 2 ▸ C 4 ▸ C 5)
     unfolding ◌▸◌ rest
-    but-relations (Upto n) = refl
-    but-relations (Refused k i) = refl
+    but-relations (Ok n) = refl
+    but-relations (Err b) = refl
 
-    after_none : (u : Bool) (m : ℕ) → level_of (W m) ≡ 0 → rest W inner u m ≡ Upto m
+    after_none : (u : Bool) (m : ℕ) → level_of (W m) ≡ 0 → rest W inner u m ≡ Ok m
     unfolding rest ◌▸◌
     after_none false m h =
         rw (stop 1 m (omega arith) (λ q. omega arith)) (rw (stop 2 m (omega arith) (λ q. omega arith)) (rw (stop 3 m (omega arith) (λ q. omega arith))
@@ -103,7 +102,7 @@ module _ (code : List ℕ) (words : ℕ) (lent : Lent code words) where
         (rw (stop 4 m (omega arith) (λ q. omega arith)) (stop 5 m (omega arith) (λ q. omega arith))))
 
     -- a second relation ends the expression
-    after-relation : (m : ℕ) → level_of (W m) ≡ 3 → rest W inner true m ≡ Upto m
+    after-relation : (m : ℕ) → level_of (W m) ≡ 3 → rest W inner true m ≡ Ok m
     unfolding rest ◌▸◌
     after-relation m h =
         rw (stop 1 m (omega arith) (λ q. omega arith)) (rw (stop 2 m (omega arith) (λ q. omega arith))
@@ -183,13 +182,13 @@ module _ (code : List ℕ) (words : ℕ) (d at : ℕ) (lent : Lent code words) w
       ∙ ap (λ (k : ℕ). operand S inner k ▸ rest S inner false) (sym (f ∙ ap (behind_sign S) e))
 
   -- the operand is refused
-  pub refused : (n : ℕ) (used : Bool) (r : Read) (k i : ℕ) → Left n used → r ≡ operand (sorts_in code words) (expression_in (sorts_in code words) d) n → r ≡ Refused k i
-      → r ≡ expression_in (sorts_in code words) (suc d) at
+  pub refused : (n : ℕ) (used : Bool) (r : Read) (b : Breach) → Left n used → r ≡ operand (sorts_in code words) (expression_in (sorts_in code words) d) n → r ≡ Err b
+      → Err b ≡ expression_in (sorts_in code words) (suc d) at
   unfolding ◌▸◌
-  refused n used r k i l e h = h ∙ sym (l ∙ rw (sym e ∙ h))
+  refused n used r b l e h = sym (l ∙ rw (sym e ∙ h))
 
   module _ (n : ℕ) (used : Bool) (r : Read) (m v k : ℕ) (l : Left n used) (e : r ≡ operand (sorts_in code words) (expression_in (sorts_in code words) d) n)
-      (h : r ≡ Upto m) (w : v ≡ sorts_in code words m) (g : k ≡ level_of v) where
+      (h : r ≡ Ok m) (w : v ≡ sorts_in code words m) (g : k ≡ level_of v) where
     on : expression_in S (suc d) at ≡ rest S inner used m
     unfolding ◌▸◌
     on = l ∙ rw (sym e ∙ h)
@@ -197,10 +196,10 @@ module _ (code : List ℕ) (words : ℕ) (d at : ℕ) (lent : Lent code words) w
     is : level_of (S m) ≡ k
     is = sym (g ∙ ap level_of w)
 
-    pub past_all : k ≡ 0 → Upto m ≡ expression_in (sorts_in code words) (suc d) at
+    pub past_all : k ≡ 0 → Ok m ≡ expression_in (sorts_in code words) (suc d) at
     past_all q = sym (on ∙ after_none code words lent inner (nested-on S d) used m (is ∙ q))
 
-    pub past-relation : k ≡ 3 → used ≡ true → Upto m ≡ expression_in (sorts_in code words) (suc d) at
+    pub past-relation : k ≡ 3 → used ≡ true → Ok m ≡ expression_in (sorts_in code words) (suc d) at
     past-relation q u = sym (on ∙ ap (λ (x : Bool). rest S inner x m) u ∙ after-relation code words lent inner (nested-on S d) m (is ∙ q))
 
     pub on-tight : (k ≡ 0 → ⊥) → k < 3 → Left (m + 1) used
@@ -226,8 +225,8 @@ module _ (code : List ℕ) (words : ℕ) where
   operator-in : (m v k : ℕ) → v ≡ sorts_in code words m → k ≡ level_of v → (k ≡ 0 → ⊥) → m < words
   operator-in m v k w g z = within code words m (λ q. z (g ∙ ap level_of (w ∙ q) ∙ level-of-nothing))
 
-  pub operator-fits : (m v k : ℕ) → Fits w64 words → v ≡ sorts_in code words m → k ≡ level_of v → (k ≡ 0 → ⊥) → Fits w64 (m + 1)
-  operator-fits m v k f w g z = record { fits = omega (arith, operator-in m v k w g z, f.fits) }
+  pub operator-fits : (m v k : ℕ) → Lent code words → v ≡ sorts_in code words m → k ≡ level_of v → (k ≡ 0 → ⊥) → Fits w64 (m + 1)
+  operator-fits m v k f w g z = record { fits = omega (arith, operator-in m v k w g z, f.few) }
 
   sign-on : (at : ℕ) → at ≤ behind_sign (sorts_in code words) at
   unfolding behind_sign
@@ -242,7 +241,7 @@ module _ (code : List ℕ) (words : ℕ) where
   pub start-on : (at a b : ℕ) → a ≡ behind_not (sorts_in code words) at → b ≡ behind_sign (sorts_in code words) a → words - b ≤ words - at
   start-on at a b f g = omega (arith, not_on at, sign-on a, f, g)
 
-  module _ (d n : ℕ) (r : Read) (m v k : ℕ) (e : r ≡ operand (sorts_in code words) (expression_in (sorts_in code words) d) n) (h : r ≡ Upto m)
+  module _ (d n : ℕ) (r : Read) (m v k : ℕ) (e : r ≡ operand (sorts_in code words) (expression_in (sorts_in code words) d) n) (h : r ≡ Ok m)
       (w : v ≡ sorts_in code words m) (g : k ≡ level_of v) (z : k ≡ 0 → ⊥) where
     -- fewer words are left after an operator
     pub fewer : words - (m + 1) < words - n
@@ -258,26 +257,9 @@ module _ (code : List ℕ) (words : ℕ) where
       pub turn_signed : (a : ℕ) → a ≡ behind_sign (sorts_in code words) (m + 1) → words - a ≤ words - at
       turn_signed a f = omega (arith, fewer-signed a f)
 
-  -- ---- nesting
+-- ---- nesting
 
-  pub nest-out : (d at c : ℕ) → d ≡ 0 → Refused deep_nesting at ≡ (expression_in (sorts_in code words) d (at + 1) ▸ word (sorts_in code words) c)
-  unfolding expression_in ◌▸◌
-  nest-out d at c h = let q : at + 1 - 1 ≡ at = omega arith in rw (h, q)
-
-  pub nest-out-2 : (d at c : ℕ) → d ≡ 0 → Refused deep_nesting (at + 1) ≡ (expression_in (sorts_in code words) d (at + 2) ▸ word (sorts_in code words) c)
-  unfolding expression_in ◌▸◌
-  nest-out-2 d at c h = let q : at + 2 - 1 ≡ at + 1 = omega arith in rw (h, q)
-
-  pub nest-in : (d at : ℕ) (r : Read) → (d ≡ 0 → ⊥) → r ≡ expression_in (sorts_in code words) (suc (d - 1)) at → r ≡ expression_in (sorts_in code words) d at
-  nest-in d at r h e = let q : suc (d - 1) ≡ d = omega arith in rw q at e
-
--- ---- the words left and the remaining nesting fall
-module _ (t d words at : ℕ) where
-  pub operand-falls : (n : ℕ) → words - at + d * 2 + 1 ≡ t → words - n ≤ words - at → words - n + d * 2 < t
-  operand-falls n e l = omega arith
-
-  pub paren-falls : words - at + d * 2 ≡ t → (d ≡ 0 → ⊥) → words - (at + 1) + (d - 1) * 2 + 1 < t
-  paren-falls e z = omega (arith, z)
-
-  pub brace-falls : words - at + d * 2 ≡ t → (d ≡ 0 → ⊥) → words - (at + 2) + (d - 1) * 2 + 1 < t
-  brace-falls e z = omega (arith, z)
+-- where none may nest deeper
+pub none-deeper : (W : ℕ → ℕ) (d at : ℕ) → d ≡ 0 → expression_in W d at ≡ Err (breach DeepNesting (at - 1))
+unfolding expression_in
+none-deeper W d at h = rw h

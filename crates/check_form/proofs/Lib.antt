@@ -4,7 +4,6 @@ pub mod Flat
 pub mod Loops
 pub mod Moves
 pub mod Compounds
-pub mod Routines
 pub mod Trees
 pub mod Modules
 pub mod Whole

@@ -1,19 +1,18 @@
 -- The loops of the parser, turn by turn, as the code's loops go through them.
-use mathlib.Core.Path.{◌≡◌, refl, sym, ap, ◌∙◌}
+use mathlib.Core.Path.{◌≡◌, sym, ap, ◌∙◌}
 use mathlib.Core.Bool.{Bool, true, false}
 use mathlib.Core.List.{List}
-use Prim.Native.Nat.{ℕ, zero, suc, ◌+◌, ◌-◌, ◌<◌, ◌≤◌}
+use Prim.Native.Nat.{ℕ, suc, ◌+◌, ◌-◌, ◌<◌}
 use native.Mathlib.Omega.{arith}
 use lib.Dec.{eqb}
 use mir.Syntax.{w64}
 use mir.Val.{Fits}
 use borrow.Author.Tests.{eqb-true, eq-eqb, ne_eqb}
 use Rattle.laws.proofs.Tests.{test, false-true}
-use Rattle.std.specs.Prelude.{if◌then◌else◌}
 use Rattle.paper.specs.Sorts.{NOTHING}
-use Rattle.check_form.specs.declared.Read.{Read}
-use Rattle.check_form.specs.declared.Read.TheVariants.{Upto, Refused}
-use Rattle.check_form.specs.Places.{Lent, sorts_in, ◌▸◌, turns, after_one, separated_turn, separated, repeated_turn, repeated, started_by}
+use Rattle.std.specs.Prelude.{Ok, Err}
+use Rattle.layout.specs.declared.rules.Breach.{Breach}
+use Rattle.check_form.specs.Places.{Read, Lent, sorts_in, ◌▸◌, after_one, separated_turn, separated, repeated_turn, repeated, started_by}
 use Rattle.check_form.proofs.Beyond.{Beyond, same_after, Local, endless, Kind}
 use Rattle.check_form.proofs.Reading.{within, place-fits}
 
@@ -40,16 +39,16 @@ module _ (code : List ℕ) (words : ℕ) (lent : Lent code words) (one : ℕ →
 
   -- x is what is read in all, and n the place of the next one
   module _ (x : Read) (n : ℕ) (left : x ≡ separated (sorts_in code words) one n) (r : Read) (e : r ≡ one n) where
-    pub commas-refused : (k i : ℕ) → r ≡ Refused k i → r ≡ x
+    pub commas-refused : (b : Breach) → r ≡ Err b → Err b ≡ x
     unfolding separated_turn ◌▸◌
-    commas-refused k i h = h ∙ sym (left ∙ separated-is n ∙ rw (sym e ∙ h))
+    commas-refused b h = sym (left ∙ separated-is n ∙ rw (sym e ∙ h))
 
-    module _ (m v : ℕ) (h : r ≡ Upto m) (w : v ≡ sorts_in code words m) where
+    module _ (m v : ℕ) (h : r ≡ Ok m) (w : v ≡ sorts_in code words m) where
       after-one : x ≡ after_one W (separated W one) m
       unfolding separated_turn ◌▸◌
       after-one = left ∙ separated-is n ∙ rw (sym e ∙ h)
 
-      pub commas-end : (v ≡ 5 → ⊥) → Upto m ≡ x
+      pub commas-end : (v ≡ 5 → ⊥) → Ok m ≡ x
       unfolding after_one
       commas-end q = sym (after-one ∙ rw (ne_eqb (W m) 5 (λ z. q (w ∙ z)), after_one))
 
@@ -63,7 +62,7 @@ module _ (code : List ℕ) (words : ℕ) (lent : Lent code words) (one : ℕ →
 -- ---- as many as there are
 
 pub behind-fits : (starts : ℕ → Bool) → starts NOTHING ≡ false → (code : List ℕ) (words n v : ℕ) (b : Bool)
-    → Fits w64 words → v ≡ sorts_in code words n → b ≡ starts v → b ≡ true → Fits w64 (n + 1)
+    → Lent code words → v ≡ sorts_in code words n → b ≡ starts v → b ≡ true → Fits w64 (n + 1)
 behind-fits starts none code words n v b f w s q = place-fits code words f n v w (λ z. false-true (sym none ∙ ap starts (sym z) ∙ sym s ∙ q))
 
 module _ (code : List ℕ) (words : ℕ) {starts : ℕ → Bool} {of : ℕ → ℕ → Read} (kind : Kind (sorts_in code words) starts of) where
@@ -91,7 +90,7 @@ module _ (code : List ℕ) (words : ℕ) {starts : ℕ → Bool} {of : ℕ → �
       unfolding repeated
       repeated-is = left ∙ endless words (repeated_turn (sorts_in code words) starts one) repeated-local lent.few n
 
-      pub repeats-end : b ≡ false → Upto n ≡ x
+      pub repeats-end : b ≡ false → Ok n ≡ x
       unfolding repeated_turn
       repeats-end q = sym (repeated-is ∙ rw (ap starts (sym w) ∙ sym s ∙ q, repeated_turn))
 
@@ -104,13 +103,13 @@ module _ (code : List ℕ) (words : ℕ) {starts : ℕ → Bool} {of : ℕ → �
         unfolding repeated_turn
         again = repeated-is ∙ rw (starts-here q, repeated_turn) (rw one-read)
 
-        pub repeats-refused : (k i : ℕ) → r ≡ Refused k i → r ≡ x
+        pub repeats-refused : (b : Breach) → r ≡ Err b → Err b ≡ x
         unfolding ◌▸◌
-        repeats-refused k i h = h ∙ sym (again ∙ rw h)
+        repeats-refused b h = sym (again ∙ rw h)
 
-        pub repeats-on : (m : ℕ) → r ≡ Upto m → x ≡ repeated (sorts_in code words) starts (started_by (sorts_in code words) of) m
+        pub repeats-on : (m : ℕ) → r ≡ Ok m → x ≡ repeated (sorts_in code words) starts (started_by (sorts_in code words) of) m
         unfolding ◌▸◌
         repeats-on m h = again ∙ rw h
 
-        pub repeats-less : (m : ℕ) → r ≡ Upto m → words - m < words - n
+        pub repeats-less : (m : ℕ) → r ≡ Ok m → words - m < words - n
         repeats-less m h = omega (arith, there n (starts-here q), kind.on n m (sym one-read ∙ h))

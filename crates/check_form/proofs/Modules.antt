@@ -3,49 +3,47 @@ use mathlib.Core.Path.{◌≡◌, refl, sym, ap, ◌∙◌}
 use mathlib.Core.Bool.{Bool, true, false, ◌||◌}
 use mathlib.Core.List.{List, [], ◌∷◌}
 use mathlib.Core.Option.{Option, none, some}
-use Prim.Native.Nat.{ℕ, zero, suc, ◌+◌, ◌-◌, ◌<◌, ◌≤◌}
+use Prim.Native.Nat.{ℕ, zero, suc, ◌+◌}
 use native.Mathlib.Omega.{arith}
 use lib.Dec.{eqb}
-use borrow.Author.Tests.{eqb-true, eqb-false, eq-eqb, ne_eqb}
-use Rattle.laws.proofs.Tests.{test, false-true}
-use Rattle.std.specs.Prelude.{if◌then◌else◌}
-use Rattle.paper.specs.Trees.{Expr, Statement, Statements, Content, Declared, Parameter, Module}
+use borrow.Author.Tests.{ne_eqb}
+use Rattle.laws.proofs.Tests.{test, false-true, apart}
+use Rattle.paper.specs.Trees.{Expr, Statements}
 use Rattle.paper.specs.Expressions as paper
 use Rattle.paper.specs.Expressions.{Parsed, Parser, got, no, ◌>>=◌, starts_simple, starts_statement, starts_data, starts_routine, parts}
 use Rattle.paper.specs.Statements as statements
-use Rattle.paper.specs.Form as paper_form
-use Rattle.check_form.specs.declared.Read.{Read}
-use Rattle.check_form.specs.declared.Read.TheVariants.{Upto, Refused}
-use Rattle.check_form.specs.declared.Part.{Part}
-use Rattle.check_form.specs.declared.Part.TheVariants as part
+use Rattle.std.specs.Prelude.{Ok, Err}
 use Rattle.check_form.specs.Places as places
-use Rattle.check_form.specs.Places.{Lent, sorts_in, ◌▸◌, ◌▹◌, turns, starts_compound}
+use Rattle.text_sorts.specs.Starts.{starts_compound}
+use Rattle.check_form.specs.Places.{Read, Parted, entered, Lent, sorts_in, ◌▸◌, ◌▹◌, turns}
 use Rattle.check_form.proofs.Beyond.{Beyond}
 use Rattle.check_form.proofs.Moves.{list_on}
 use Rattle.check_form.proofs.Compounds.{arm-again, closing, into-list, case-rest, to_end}
-use Rattle.check_form.proofs.Trees.{place, second, itself, forget, behind, then-more, then-0, then-1, then-2, ends_so, ends-behind, choice, Same, word-is, type-is, nested_is, expression-is, separated-is, repeated-is, expressions-is, simple-is}
+use Rattle.check_form.proofs.Trees.{Tells, tells-as, place, second, itself, forget, behind, then-more, then-0, then-1, then-2, ends_so, ends-behind, Same, word-is, expression-is, expressions-is, simple-is}
 
 -- a reading goes on into a part
-into-part : {A B : Type 0} {q : Read} (W : ℕ → ℕ) (list : ℕ → Read) (p : Parsed (A × ℕ)) (f : A × ℕ → Parsed (B × ℕ)) (g : ℕ → Part) → forget p ≡ q
-    → ((x : A × ℕ) → forget (f x) ≡ places.resume W list (g x.1)) → forget (p >>= f) ≡ places.resume W list (q ▹ g)
+into-part : {A B : Type 0} (q : Read) (W : ℕ → ℕ) (list : ℕ → Read) (p : Parsed (A × ℕ)) (f : A × ℕ → Parsed (B × ℕ)) (g : ℕ → Parted) → Tells (forget p) q
+    → ((x : A × ℕ) → Tells (forget (f x)) (places.resume W list (g x.1))) → Tells (forget (p >>= f)) (places.resume W list (q ▹ g))
 unfolding place ◌>>=◌ ◌▹◌ places.resume
-into-part W list (got x) f g h e = e x ∙ ap (λ (r : Read). places.resume W list (r ▹ g)) h
-into-part W list (no k i) f g h e = ap (λ (r : Read). places.resume W list (r ▹ g)) h
+into-part (Ok n) W list (got x) f g h e = let i = h.is in let z : x.1 ≡ n = cc in tells-as (e x) (ap (λ (m : ℕ). places.resume W list (g m)) z)
+into-part (Err b) W list (got x) f g h e = let i = h.is in apart (cc)
+into-part (Ok n) W list (no k i) f g h e = let i = h.is in apart (cc)
+into-part (Err b) W list (no k i) f g h e = h
 
 -- ---- the lists of compound statements
 
 module _ (W : ℕ → ℕ) (list : Parser Statements) (list' : ℕ → Read) (same : Same list list') where
   else_is : Same (statements.else_part W list) (places.else_part W list')
   unfolding statements.else_part places.else_part place
-  else_is at = test (eqb (W at) 41) (λ t. rw (t, statements.else_part) (same (at + 1))) (λ t. rw (t, statements.else_part))
+  else_is at = test (eqb (W at) 41) (λ t. rw (t, statements.else_part) (same (at + 1))) (λ t. rw (t, statements.else_part) (record { is = refl }))
 
-  last-arm-is : (e : Expr) (b : Statements) (at : ℕ) → forget (statements.last_arm W list e b at) ≡ (places.else_part W list' at ▸ places.word W 45)
+  last-arm-is : (e : Expr) (b : Statements) (at : ℕ) → Tells (forget (statements.last_arm W list e b at)) (places.else_part W list' at ▸ places.word W 45)
   unfolding statements.last_arm
   last-arm-is e b at = then-0 second (statements.else_part W list at) _ _ (else_is at) (λ x. ends_so itself (paper.expect W 45 x.1) _ (word-is W 45 x.1))
 
   arms-turns : (p : ℕ) (e : Expr) → Same (statements.arms W p list e) (turns (places.arms_turn W list') p)
   unfolding statements.arms turns places.arms_turn places.after_arm place
-  arms-turns zero e at = refl
+  arms-turns zero e at = (record { is = refl })
   arms-turns (suc p) e at =
       then-0 second (list at) _ (places.after_arm W list' (turns (places.arms_turn W list') p)) (same at)
       (λ x. test (eqb (W x.1) 42)
@@ -63,11 +61,11 @@ module _ (W : ℕ → ℕ) (list : Parser Statements) (list' : ℕ → Read) (sa
   default-is at =
       test (eqb (W at) 38)
       (λ t. rw (t, statements.default_part) (then-0 itself (paper.expect W 10 (at + 1)) _ _ (word-is W 10 (at + 1)) (λ n. same n)))
-      (λ t. rw (t, statements.default_part))
+      (λ t. rw (t, statements.default_part) (record { is = refl }))
 
   cases-turns : (p : ℕ) → Same (statements.cases W p list) (turns (places.cases_turn W list') p)
   unfolding statements.cases statements.last_case turns places.cases_turn place
-  cases-turns zero at = refl
+  cases-turns zero at = (record { is = refl })
   cases-turns (suc p) at =
       test (eqb (W at) 35)
       (λ t. rw (t, statements.cases) (then-2 second (paper.exprs W (at + 1)) _ _ _ _ (expressions-is W (at + 1))
@@ -83,10 +81,10 @@ module _ (W : ℕ → ℕ) (list : Parser Statements) (list' : ℕ → Read) (sa
   step_is : Same (statements.step_part W) (places.step_part W)
   unfolding statements.step_part places.step_part place
   step_is at =
-      test (eqb (W at) 75) (λ t. rw (t, statements.step_part) (ends_so second (paper.expr W (at + 1)) _ (expression-is W (at + 1)))) (λ t. rw (t, statements.step_part))
+      test (eqb (W at) 75) (λ t. rw (t, statements.step_part) (ends_so second (paper.expr W (at + 1)) _ (expression-is W (at + 1)))) (λ t. rw (t, statements.step_part) (record { is = refl }))
 
-  for-behind : (at : ℕ) → forget (statements.for_statement W list at)
-      ≡ behind (places.word W 1 (at + 1)) (places.word W 56 ∷ places.expression W ∷ places.word W 79 ∷ places.expression W ∷ places.step_part W ∷ places.word W 40 ∷ list' ∷ places.word W 43 ∷ [])
+  for-behind : (at : ℕ) → Tells (forget (statements.for_statement W list at))
+      (behind (places.word W 1 (at + 1)) (places.word W 56 ∷ places.expression W ∷ places.word W 79 ∷ places.expression W ∷ places.step_part W ∷ places.word W 40 ∷ list' ∷ places.word W 43 ∷ []))
   unfolding statements.for_statement
   for-behind at =
       then-more itself (paper.expect W 1 (at + 1)) _ _ _ (word-is W 1 (at + 1))
@@ -99,11 +97,11 @@ module _ (W : ℕ → ℕ) (list : Parser Statements) (list' : ℕ → Read) (sa
       (λ g. then-more second (list g) _ _ _ (same g)
       (λ h. ends-behind itself (paper.expect W 43 h.1) _ (word-is W 43 h.1)))))))))
 
-  for-is : (at : ℕ) → forget (statements.for_statement W list at) ≡ (places.for_head W (at + 1) ▸ list' ▸ places.word W 43)
+  for-is : (at : ℕ) → Tells (forget (statements.for_statement W list at)) (places.for_head W (at + 1) ▸ list' ▸ places.word W 43)
   unfolding places.for_head behind
   for-is at = for-behind at
 
-  while-is : (at : ℕ) → forget (statements.while_statement W list at) ≡ (places.expression W (at + 1) ▸ places.word W 40 ▸ list' ▸ places.word W 51)
+  while-is : (at : ℕ) → Tells (forget (statements.while_statement W list at)) (places.expression W (at + 1) ▸ places.word W 40 ▸ list' ▸ places.word W 51)
   unfolding statements.while_statement
   while-is at =
       then-2 second (paper.expr W (at + 1)) _ _ _ _ (expression-is W (at + 1))
@@ -135,10 +133,10 @@ module _ (W : ℕ → ℕ) (deeper : Option (Parser Statements)) where
       (λ b. rw b (test (eqb (W at) 86) (λ c. false-true (sym h ∙ rw (a, b, c)))
       (λ c. rw c (test (eqb (W at) 77) (λ d. false-true (sym h ∙ rw (a, b, c, d))) (λ d. rw d)))))))
 
-  module _ (compound' : ℕ → Read) (same : (at : ℕ) → starts_compound (W at) ≡ true → forget (statements.statement W deeper at) ≡ compound' at) where
+  module _ (compound' : ℕ → Read) (same : (at : ℕ) → starts_compound (W at) ≡ true → Tells (forget (statements.statement W deeper at)) (compound' at)) where
     list-turns : (p : ℕ) → Same (statements.statements W p deeper) (turns (places.list_turn W compound') p)
     unfolding statements.statements statements.plain_statement turns places.list_turn place
-    list-turns zero at = refl
+    list-turns zero at = (record { is = refl })
     list-turns (suc p) at =
         test (starts_compound (W at))
         (λ t. rw (starts-split (W at), statements.statements) (rw (t, or-true (starts_simple (W at)))
@@ -147,7 +145,7 @@ module _ (W : ℕ → ℕ) (deeper : Option (Parser Statements)) where
         (λ u. rw (starts-split (W at), statements.statements) (rw (t, u)
         (then-0 second (statements.statement W deeper at) _ _ (rw (plain-is at t) (ends_so second (statements.simple_statement W at) _ (simple-is W at)))
         (λ x. ends_so second (statements.statements W p deeper x.1) _ (list-turns p x.1)))))
-        (λ u. rw (starts-split (W at), statements.statements) (rw (t, u))))
+        (λ u. rw (starts-split (W at), statements.statements) (rw (t, u) (record { is = refl }))))
 
 module _ (code : List ℕ) (words : ℕ) (lent : Lent code words) where
   abbrev W : ℕ → ℕ
@@ -155,42 +153,42 @@ module _ (code : List ℕ) (words : ℕ) (lent : Lent code words) where
 
   -- where none may nest deeper
   compound-none : (list' : ℕ → Read) → ((at : ℕ) → Beyond at (list' at)) → (at : ℕ) → starts_compound (W at) ≡ true
-      → forget (statements.statement W none at) ≡ places.resume W list' (places.opened W 0 at)
+      → Tells (forget (statements.statement W none at)) (places.resume W list' (places.opened W 0 at))
   unfolding starts_compound statements.statement statements.if_statement statements.if_simple statements.opening places.opened places.if_head places.condition places.resume place
   compound-none list' weak at h =
       test (eqb (W at) 59)
-      (λ a. rw a (into-part W list' (paper.expr W (at + 1)) _ (places.condition W 0) (expression-is W (at + 1))
-      (λ x. test (eqb (W x.1) 78) (λ t. rw t)
-      (λ t. rw t (ends_so second (statements.simple_statement W x.1) _ (simple-is W x.1) ∙ to_end code words lent list' weak (places.simple W x.1))))))
-      (λ a. rw a (test (eqb (W at) 55) (λ b. rw b) (λ b. rw b (test (eqb (W at) 86) (λ c. rw c) (λ c. rw c (test (eqb (W at) 77) (λ d. rw d) (λ d. false-true (sym (rw (a, b, c, d)) ∙ h))))))))
+      (λ a. rw a (into-part _ W list' (paper.expr W (at + 1)) _ (places.condition W 0) (expression-is W (at + 1))
+      (λ x. test (eqb (W x.1) 78) (λ t. rw t (record { is = refl }))
+      (λ t. rw t (tells-as (ends_so second (statements.simple_statement W x.1) _ (simple-is W x.1)) (to_end code words lent list' weak (places.simple W x.1)))))))
+      (λ a. rw a (test (eqb (W at) 55) (λ b. rw b (record { is = refl })) (λ b. rw b (test (eqb (W at) 86) (λ c. rw c (record { is = refl })) (λ c. rw c (test (eqb (W at) 77) (λ d. rw d (record { is = refl })) (λ d. false-true (sym (rw (a, b, c, d)) ∙ h))))))))
 
   -- where some may
   module _ (list : Parser Statements) (list' : ℕ → Read) (same : Same list list') (weak : (at : ℕ) → Beyond at (list' at)) where
-    then_is : (at : ℕ) (e : Expr) (n : ℕ) → forget (statements.if_then W at list e n) ≡ places.resume W list' (part.Inside 42 (n + 1))
+    then_is : (at : ℕ) (e : Expr) (n : ℕ) → Tells (forget (statements.if_then W at list e n)) (places.resume W list' (entered 42 (n + 1)))
     unfolding statements.if_then places.resume
-    then_is at e n = ends_so second (statements.arms W parts list e (n + 1)) _ (arms-is W list list' same e (n + 1)) ∙ arm-again code words lent list' weak (n + 1)
+    then_is at e n = tells-as (ends_so second (statements.arms W parts list e (n + 1)) _ (arms-is W list list' same e (n + 1))) (arm-again code words lent list' weak (n + 1))
 
-    if-is : (d at : ℕ) → forget (statements.if_statement W (some list) at) ≡ places.resume W list' (places.if_head W (suc d) (at + 1))
+    if-is : (d at : ℕ) → Tells (forget (statements.if_statement W (some list) at)) (places.resume W list' (places.if_head W (suc d) (at + 1)))
     unfolding statements.if_statement statements.if_simple places.if_head places.condition
     if-is d at =
-        into-part W list' (paper.expr W (at + 1)) _ (places.condition W (suc d)) (expression-is W (at + 1))
+        into-part _ W list' (paper.expr W (at + 1)) _ (places.condition W (suc d)) (expression-is W (at + 1))
         (λ x. test (eqb (W x.1) 78)
         (λ t. rw (t, ne_eqb (suc d) 0 (λ z. omega arith)) (then_is at x.0 x.1))
-        (λ t. rw t (ends_so second (statements.simple_statement W x.1) _ (simple-is W x.1) ∙ to_end code words lent list' weak (places.simple W x.1))))
+        (λ t. rw t (tells-as (ends_so second (statements.simple_statement W x.1) _ (simple-is W x.1)) (to_end code words lent list' weak (places.simple W x.1)))))
 
-    for-part : (at : ℕ) → forget (statements.for_statement W list at) ≡ places.resume W list' (places.for_head W (at + 1) ▹ part.Inside 43)
-    for-part at = for-is W list list' same at ∙ into-list code words lent list' weak (places.for_head W (at + 1)) 43 (places.word W 43) (λ n. closing code words lent list' weak 43 (λ z. omega arith) (λ z. omega arith) (list' n))
+    for-part : (at : ℕ) → Tells (forget (statements.for_statement W list at)) (places.resume W list' (places.for_head W (at + 1) ▹ entered 43))
+    for-part at = tells-as (for-is W list list' same at) (into-list code words lent list' weak (places.for_head W (at + 1)) 43 (places.word W 43) (λ n. closing code words lent list' weak 43 (λ z. omega arith) (λ z. omega arith) (list' n)))
 
-    while-part : (at : ℕ) → forget (statements.while_statement W list at) ≡ places.resume W list' (places.expression W (at + 1) ▸ places.word W 40 ▹ part.Inside 51)
-    while-part at = while-is W list list' same at ∙ into-list code words lent list' weak (places.expression W (at + 1) ▸ places.word W 40) 51 (places.word W 51) (λ n. closing code words lent list' weak 51 (λ z. omega arith) (λ z. omega arith) (list' n))
+    while-part : (at : ℕ) → Tells (forget (statements.while_statement W list at)) (places.resume W list' (places.expression W (at + 1) ▸ places.word W 40 ▹ entered 51))
+    while-part at = tells-as (while-is W list list' same at) (into-list code words lent list' weak (places.expression W (at + 1) ▸ places.word W 40) 51 (places.word W 51) (λ n. closing code words lent list' weak 51 (λ z. omega arith) (λ z. omega arith) (list' n)))
 
-    test-part : (at : ℕ) → forget (statements.test_statement W list at) ≡ places.resume W list' (places.test_head W (at + 1))
+    test-part : (at : ℕ) → Tells (forget (statements.test_statement W list at)) (places.resume W list' (places.test_head W (at + 1)))
     unfolding statements.test_statement places.test_head
     test-part at =
-        into-part W list' (paper.expr W (at + 1)) _ (places.case_end W) (expression-is W (at + 1))
-        (λ x. ends_so second (statements.cases W parts list x.1) _ (cases-is W list list' same x.1) ∙ case-rest code words lent list' weak x.1)
+        into-part _ W list' (paper.expr W (at + 1)) _ (places.case_end W) (expression-is W (at + 1))
+        (λ x. tells-as (ends_so second (statements.cases W parts list x.1) _ (cases-is W list list' same x.1)) (case-rest code words lent list' weak x.1))
 
-    compound-some : (d at : ℕ) → starts_compound (W at) ≡ true → forget (statements.statement W (some list) at) ≡ places.resume W list' (places.opened W (suc d) at)
+    compound-some : (d at : ℕ) → starts_compound (W at) ≡ true → Tells (forget (statements.statement W (some list) at)) (places.resume W list' (places.opened W (suc d) at))
     unfolding starts_compound statements.statement statements.opening places.opened
     compound-some d at h =
         test (eqb (W at) 59) (λ a. rw a (if-is d at))

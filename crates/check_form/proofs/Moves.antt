@@ -1,22 +1,22 @@
 -- Statements, data and routines move on, as expressions do (Beyond).
-use mathlib.Core.Path.{◌≡◌, refl, sym, ap, ◌∙◌}
+use mathlib.Core.Path.{◌≡◌, refl}
 use mathlib.Core.Bool.{Bool, true, false}
-use Prim.Native.Nat.{ℕ, zero, suc, ◌+◌, ◌-◌, ◌<◌, ◌≤◌}
+use Prim.Native.Nat.{ℕ, zero, suc, ◌+◌, ◌≤◌}
 use native.Mathlib.Omega.{arith}
 use lib.Dec.{eqb}
-use Rattle.laws.proofs.Tests.{apart}
 use Rattle.std.specs.Prelude.{if◌then◌else◌}
 use Rattle.paper.specs.Sorts.{NOTHING, ERROR, UNDO}
 use Rattle.paper.specs.Expressions.{starts_simple, starts_data, starts_routine, parts}
-use Rattle.check_form.specs.declared.Read.{Read}
-use Rattle.check_form.specs.declared.Read.TheVariants.{Upto, Refused}
-use Rattle.check_form.specs.declared.Part.{Part}
+use Rattle.std.specs.Prelude.{Ok, Err}
+use Rattle.layout.specs.declared.rules.Breach.{Breach}
+use Rattle.layout.specs.declared.rules.Rule.TheVariants.{NoForm, DeepNesting}
 use Rattle.check_form.specs.declared.Part.TheVariants as part
-use Rattle.check_form.specs.Places.{◌▸◌, ◌▹◌, turns, word, type_word, expression_in, after_one, separated_turn, separated, repeated_turn, repeated, expressions, arguments, optional}
+use Rattle.text_sorts.specs.Starts.{starts_compound}
+use Rattle.check_form.specs.Places.{Read, Parted, breach, ended, entered, ◌▸◌, ◌▹◌, turns, word, expression_in, after_one, separated_turn, separated, repeated_turn, repeated, expressions, arguments, optional}
 use Rattle.check_form.specs.Places.{target, right_side, assigns, started_by_name, number, writing, wanting, simple_word, simple, arm_end, case_end, list_end, step_part, for_head, condition, if_head, test_head, opened}
-use Rattle.check_form.specs.Places.{else_part, after_arm, arms_turn, arms, default_part, cases_turn, cases, ending, resume, starts_compound, list_turn, list_below, compound}
+use Rattle.check_form.specs.Places.{else_part, after_arm, arms_turn, arms, default_part, cases_turn, cases, ending, resume, list_turn, list_below, compound}
 use Rattle.check_form.specs.Places.{content, started_by, declaration, declarations, parameter, parameters, list_behind, routine_from, routine}
-use Rattle.check_form.proofs.Beyond.{Beyond, refuses, ends, sooner, either, follows, on, strictly, turns-on, Kind, word_on, type-on, nested-on}
+use Rattle.check_form.proofs.Beyond.{Beyond, refuses, ends, sooner, either, on, strictly, turns-on, Kind, word_on, type-on, nested-on}
 use Rattle.paper.specs.Words.{word_limit}
 
 -- where no word stands nothing starts
@@ -29,43 +29,43 @@ unfolding starts_routine
 no-routine = refl
 
 -- how far a part reaches
-unfoldable pub reached : Part → Read
-reached (part.Whole n) = Upto n
-reached (part.Inside c n) = Upto n
-reached (part.Refused k i) = Refused k i
+unfoldable pub reached : Parted → Read
+reached (Ok (part.Whole n)) = Ok n
+reached (Ok (part.Inside c n)) = Ok n
+reached (Err b) = Err b
 
-pub record Ahead (lo : ℕ) (p : Part) : Type 0 where
+pub record Ahead (lo : ℕ) (p : Parted) : Type 0 where
   pub far : Beyond lo (reached p)
 
-reaches : {lo mid : ℕ} (r : Read) (f : ℕ → Part) → Beyond mid r → ((n : ℕ) → mid ≤ n → Ahead lo (f n)) → Ahead lo (r ▹ f)
+reaches : {lo mid : ℕ} (r : Read) (f : ℕ → Parted) → Beyond mid r → ((n : ℕ) → mid ≤ n → Ahead lo (f n)) → Ahead lo (r ▹ f)
 unfolding ◌▹◌ reached
-reaches (Upto n) f h g = g n (h n refl)
-reaches {lo} (Refused k i) f h g = record { far = refuses lo k i }
+reaches (Ok n) f h g = g n (h n refl)
+reaches {lo} (Err b) f h g = record { far = refuses lo b }
 
-choose : {lo : ℕ} {p q : Part} (b : Bool) → Ahead lo p → Ahead lo q → Ahead lo (if b then p else q)
+choose : {lo : ℕ} {p q : Parted} (b : Bool) → Ahead lo p → Ahead lo q → Ahead lo (if b then p else q)
 choose true f g = f
 choose false f g = g
 
-pub nearer : {lo : ℕ} {p : Part} (low : ℕ) → low ≤ lo → Ahead lo p → Ahead low p
+pub nearer : {lo : ℕ} {p : Parted} (low : ℕ) → low ≤ lo → Ahead lo p → Ahead low p
 nearer low h g = record { far = sooner low h g.far }
 
-stops : (lo k i : ℕ) → Ahead lo (part.Refused k i)
+stops : (lo : ℕ) (b : Breach) → Ahead lo (Err b)
 unfolding reached
-stops lo k i = record { far = refuses lo k i }
+stops lo b = record { far = refuses lo b }
 
-enters : (lo c n : ℕ) → lo ≤ n → Ahead lo (part.Inside c n)
+enters : (lo c n : ℕ) → lo ≤ n → Ahead lo (Ok (part.Inside c n))
 unfolding reached
 enters lo c n h = record { far = ends lo n h }
 
-finishes : (lo n : ℕ) → lo ≤ n → Ahead lo (part.Whole n)
+finishes : (lo n : ℕ) → lo ≤ n → Ahead lo (Ok (part.Whole n))
 unfolding reached
 finishes lo n h = record { far = ends lo n h }
 
-whole-reaches : {lo : ℕ} (r : Read) → Beyond lo r → Ahead lo (r ▹ part.Whole)
-whole-reaches {lo} r h = reaches r part.Whole h (λ n l. finishes lo n l)
+whole-reaches : {lo : ℕ} (r : Read) → Beyond lo r → Ahead lo (r ▹ ended)
+whole-reaches {lo} r h = reaches r ended h (λ n l. finishes lo n l)
 
-inside_reaches : {lo : ℕ} (r : Read) (c : ℕ) → Beyond lo r → Ahead lo (r ▹ part.Inside c)
-inside_reaches {lo} r c h = reaches r (part.Inside c) h (λ n l. enters lo c n l)
+inside_reaches : {lo : ℕ} (r : Read) (c : ℕ) → Beyond lo r → Ahead lo (r ▹ entered c)
+inside_reaches {lo} r c h = reaches r (entered c) h (λ n l. enters lo c n l)
 
 -- a loop that reads one at least
 turns-strict : (turn : (ℕ → Read) → ℕ → Read) → ((again : ℕ → Read) → ((n : ℕ) → Beyond n (again n)) → (at : ℕ) → Beyond (suc at) (turn again at))
@@ -108,7 +108,7 @@ module _ (W : ℕ → ℕ) where
   target-on at =
       either (eqb (W at) 1)
       (either (eqb (W (at + 1)) 8) (on (sooner (suc at) (omega arith) (nested-on W 16 (at + 2))) (strictly (word_on W 9))) (ends (suc at) (at + 1) (omega arith)))
-      (refuses (suc at) 8 at)
+      (refuses (suc at) (breach NoForm at))
 
   right-on : (at : ℕ) → Beyond (suc at) (right_side W at)
   unfolding right_side
@@ -149,7 +149,7 @@ module _ (W : ℕ → ℕ) where
       (either (eqb (W at) 82) (ends (suc at) (at + 1) (omega arith))
       (either (eqb (W at) 91) (sooner (suc at) (omega arith) (writing-on (at + 1)))
       (either (eqb (W at) 92) (sooner (suc at) (omega arith) (wanting-on (at + 1)))
-      (refuses (suc at) 8 at))))))))
+      (refuses (suc at) (breach NoForm at)))))))))
 
   pub simple-on : (at : ℕ) → Beyond (suc at) (simple W at)
   unfolding simple
@@ -185,14 +185,14 @@ module _ (W : ℕ → ℕ) where
   condition-on : (d at : ℕ) → Ahead at (condition W d at)
   unfolding condition
   condition-on d at =
-      choose (eqb (W at) 78) (choose (eqb d 0) (stops at 9 at) (enters at 42 (at + 1) (omega arith)))
+      choose (eqb (W at) 78) (choose (eqb d 0) (stops at (breach DeepNesting at)) (enters at 42 (at + 1) (omega arith)))
       (whole-reaches (simple W at) (sooner at (omega arith) (simple-on at)))
 
   pub opened-on : (d at : ℕ) → Ahead (suc at) (opened W d at)
   unfolding opened if_head test_head
   opened-on d at =
       choose (eqb (W at) 59) (reaches (expression_in W 17 (at + 1)) (condition W d) (sooner (suc at) (omega arith) (nested-on W 17 (at + 1))) (λ n l. nearer (suc at) l (condition-on d n)))
-      (choose (eqb d 0) (stops (suc at) 9 at)
+      (choose (eqb d 0) (stops (suc at) (breach DeepNesting at))
       (choose (eqb (W at) 55) (inside_reaches (for_head W (at + 1)) 43 (sooner (suc at) (omega arith) (for-on (at + 1))))
       (choose (eqb (W at) 86) (inside_reaches (expression_in W 17 (at + 1) ▸ word W 40) 51 (on (sooner (suc at) (omega arith) (nested-on W 17 (at + 1))) (strictly (word_on W 40))))
       (reaches (expression_in W 17 (at + 1)) (case_end W) (sooner (suc at) (omega arith) (nested-on W 17 (at + 1))) (λ n l. nearer (suc at) (omega arith) (case-on n))))))
@@ -228,17 +228,17 @@ module _ (W : ℕ → ℕ) where
     ending-on c at =
         either (eqb c 42) (after-arm-on (arms W list) arms-on at) (either (eqb c 35) (cases-on at) (sooner at (omega arith) (word_on W c at)))
 
-    pub resume-on : (lo : ℕ) (p : Part) → Ahead lo p → Beyond lo (resume W list p)
+    pub resume-on : (lo : ℕ) (p : Parted) → Ahead lo p → Beyond lo (resume W list p)
     unfolding resume reached
-    resume-on lo (part.Whole n) h = h.far
-    resume-on lo (part.Refused k i) h = h.far
-    resume-on lo (part.Inside c n) h = on (sooner lo (h.far n refl) (list_on n)) (ending-on c)
+    resume-on lo (Ok (part.Whole n)) h = h.far
+    resume-on lo (Err b) h = h.far
+    resume-on lo (Ok (part.Inside c n)) h = on (sooner lo (h.far n refl) (list_on n)) (ending-on c)
 
   -- ---- lists
 
   pub list_on : (d at : ℕ) → Beyond at (list_below W d at)
   unfolding list_below list_turn
-  list_on zero at = refuses at 9 at
+  list_on zero at = refuses at (breach DeepNesting at)
   list_on (suc d) at =
       turns-on (list_turn W (λ n. resume W (list_below W d) (opened W d n)))
       (λ again g n. either (starts_compound (W n)) (on (sooner n (omega arith) (resume-on (list_below W d) (list_on d) (suc n) (opened W d n) (opened-on d n))) g)
@@ -255,7 +255,7 @@ module _ (W : ℕ → ℕ) where
   content-on s at =
       either (eqb (W at) 11) (sooner at (omega arith) (nested-on W 17 (at + 1)))
       (either (eqb s 84) (either (eqb (W at) 8) (on (sooner at (omega arith) (nested-on W 17 (at + 1))) (strictly (word_on W 9))) (ends at at (omega arith)))
-      (refuses at 8 at))
+      (refuses at (breach NoForm at)))
 
   declaration-on : (s at : ℕ) → Beyond (suc at) (declaration W s at)
   unfolding declaration
@@ -280,14 +280,14 @@ module _ (W : ℕ → ℕ) where
   unfolding list_behind
   behind-on s at = either (eqb (W at) s) (sooner at (omega arith) (list_on 17 (at + 1))) (ends at at (omega arith))
 
-  from_on : (lo c : ℕ) (r : Read) → Beyond lo r → Beyond lo (routine_from W c r)
+  from_on : (c at : ℕ) → Beyond (suc at) (routine_from W c at)
   unfolding routine_from
-  from_on lo c r h =
-      on (on (on (on (on (on (on (on (on h (strictly (word_on W 1))) (strictly (word_on W 6))) parameters-on) (strictly (word_on W 7))) declarations-on) (list_on 17)) (behind-on ERROR)) (behind-on UNDO)) (strictly (word_on W c))
+  from_on c at =
+      on (on (on (on (on (on (on (on (word_on W 1 at) (strictly (word_on W 6))) parameters-on) (strictly (word_on W 7))) declarations-on) (list_on 17)) (behind-on ERROR)) (behind-on UNDO)) (strictly (word_on W c))
 
   routine-on : (s at : ℕ) → Beyond at (routine W s at)
   unfolding routine
-  routine-on s at = either (eqb s 69) (from_on at 47 (Upto at) (ends at at (omega arith))) (from_on at 44 (type_word W at) (sooner at (omega arith) (type-on W at)))
+  routine-on s at = either (eqb s 69) (sooner at (omega arith) (from_on 47 at)) (on (sooner at (omega arith) (type-on W at)) (strictly (from_on 44)))
 
   pub routine-kind : Kind W starts_routine (routine W)
   unfolding started_by

@@ -1,29 +1,31 @@
 -- The paper's parser, with its trees forgotten, goes over the same places and refuses the same words.
-use mathlib.Core.Path.{◌≡◌, refl, sym, ap, ◌∙◌}
-use mathlib.Core.Bool.{Bool, true, false, ◌||◌, ◌&&◌}
+use mathlib.Core.Path.{◌≡◌, refl, sym, ap}
+use mathlib.Core.Bool.{Bool, true, false, ◌||◌}
 use mathlib.Core.List.{List, [], ◌∷◌}
-use mathlib.Core.Option.{Option, none, some}
-use Prim.Native.Nat.{ℕ, zero, suc, ◌+◌, ◌-◌, ◌<◌, ◌≤◌}
+use mathlib.Core.Option.{Option}
+use Prim.Native.Nat.{ℕ, zero, suc, ◌+◌}
 use native.Mathlib.Omega.{arith}
 use lib.Dec.{eqb}
-use borrow.Author.Tests.{eqb-true, eqb-false, eq-eqb, ne_eqb}
-use Rattle.laws.proofs.Tests.{test}
+use borrow.Author.Tests.{eqb-true, ne_eqb}
+use Rattle.laws.proofs.Tests.{test, apart}
 use Rattle.std.specs.Prelude.{if◌then◌else◌}
+use Rattle.paper.specs.Types.{Fault}
 use Rattle.paper.specs.Trees.{Expr, Target, Simple}
 use Rattle.paper.specs.Expressions as paper
 use Rattle.paper.specs.Expressions.{Parsed, Parser, got, no, ◌>>=◌, level_of, stands_before, is_literal, is_type, parts}
 use Rattle.paper.specs.Statements as statements
-use Rattle.check_form.specs.declared.Read.{Read}
-use Rattle.check_form.specs.declared.Read.TheVariants.{Upto, Refused}
+use Rattle.std.specs.Prelude.{Result, Ok, Err}
+use Rattle.layout.specs.declared.rules.Breach.{Breach}
+use Rattle.check_form.specs.Judged.{told}
 use Rattle.check_form.specs.Places as places
-use Rattle.check_form.specs.Places.{◌▸◌, turns}
+use Rattle.check_form.specs.Places.{Read, ◌▸◌, turns}
 
 -- ---- trees forgotten
 
--- the place that a reading comes to
-unfoldable pub place : {A : Type 0} → (at : A → ℕ) → Parsed A → Read
-place at (got x) = Upto (at x)
-place at (no k i) = Refused k i
+-- the place that a reading comes to, or what a host is told of its refusal
+unfoldable pub place : {A : Type 0} → (at : A → ℕ) → Parsed A → Result ℕ Fault
+place at (got x) = Ok (at x)
+place at (no k i) = Err (record { number = k; at = i })
 
 abbrev pub second : {A : Type 0} → A × ℕ → ℕ
 second x = x.1
@@ -31,73 +33,82 @@ second x = x.1
 abbrev pub itself : ℕ → ℕ
 itself n = n
 
-abbrev pub forget : {A : Type 0} → Parsed (A × ℕ) → Read
+abbrev pub forget : {A : Type 0} → Parsed (A × ℕ) → Result ℕ Fault
 forget p = place second p
 
+-- The code's reading r is told as the paper's.
+pub record Tells (p : Result ℕ Fault) (r : Read) : Type 0 where
+  pub is : p ≡ told r
+
+pub tells-as : {p : Result ℕ Fault} {q r : Read} → Tells p q → q ≡ r → Tells p r
+tells-as h e = rw e at h
+
 -- a reading goes on, and more after that, K, in which a refusal stays
-goes : {A B : Type 0} {q : Read} (at : A → ℕ) (p : Parsed A) (f : A → Parsed (B × ℕ)) (g : ℕ → Read) (K : Read → Read) → ((k i : ℕ) → K (Refused k i) ≡ Refused k i)
-    → place at p ≡ q → ((x : A) → forget (f x) ≡ K (g (at x))) → forget (p >>= f) ≡ K (q ▸ g)
+goes : {A B : Type 0} (at : A → ℕ) (p : Parsed A) (q : Read) (f : A → Parsed (B × ℕ)) (g : ℕ → Read) (K : Read → Read) → ((b : Breach) → K (Err b) ≡ Err b)
+    → Tells (place at p) q → ((x : A) → Tells (forget (f x)) (K (g (at x)))) → Tells (forget (p >>= f)) (K (q ▸ g))
 unfolding place ◌>>=◌ ◌▸◌
-goes at (got x) f g K s h e = e x ∙ ap (λ (r : Read). K (r ▸ g)) h
-goes at (no k i) f g K s h e = sym (s k i) ∙ ap (λ (r : Read). K (r ▸ g)) h
+goes at (got x) (Ok n) f g K s h e = let i = h.is in let z : at x ≡ n = cc in tells-as (e x) (ap (λ (m : ℕ). K (g m)) z)
+goes at (got x) (Err b) f g K s h e = let i = h.is in apart (cc)
+goes at (no k i) (Ok n) f g K s h e = let i = h.is in apart (cc)
+goes at (no k i) (Err b) f g K s h e = tells-as h (sym (s b))
 
 -- a reading, and others behind it
 unfoldable pub behind : Read → List (ℕ → Read) → Read
 behind r [] = r
 behind r (g ∷ gs) = behind (r ▸ g) gs
 
-stays-refused : (k i : ℕ) (gs : List (ℕ → Read)) → behind (Refused k i) gs ≡ Refused k i
+stays-refused : (b : Breach) (gs : List (ℕ → Read)) → behind (Err b) gs ≡ Err b
 unfolding behind ◌▸◌
-stays-refused k i [] = refl
-stays-refused k i (g ∷ gs) = stays-refused k i gs
+stays-refused b [] = refl
+stays-refused b (g ∷ gs) = stays-refused b gs
 
-pub then-more : {A B : Type 0} {q : Read} (at : A → ℕ) (p : Parsed A) (f : A → Parsed (B × ℕ)) (g : ℕ → Read) (gs : List (ℕ → Read)) → place at p ≡ q
-    → ((x : A) → forget (f x) ≡ behind (g (at x)) gs) → forget (p >>= f) ≡ behind q (g ∷ gs)
+pub then-more : {A B : Type 0} {q : Read} (at : A → ℕ) (p : Parsed A) (f : A → Parsed (B × ℕ)) (g : ℕ → Read) (gs : List (ℕ → Read)) → Tells (place at p) q
+    → ((x : A) → Tells (forget (f x)) (behind (g (at x)) gs)) → Tells (forget (p >>= f)) (behind q (g ∷ gs))
 unfolding behind
-then-more at p f g gs h e = goes at p f g (λ (y : Read). behind y gs) (λ k i. stays-refused k i gs) h e
+then-more {q} at p f g gs h e = goes at p q f g (λ (y : Read). behind y gs) (λ b. stays-refused b gs) h e
 
 -- with so many more behind it
-pub then-0 : {A B : Type 0} {q : Read} (at : A → ℕ) (p : Parsed A) (f : A → Parsed (B × ℕ)) (g : ℕ → Read) → place at p ≡ q
-    → ((x : A) → forget (f x) ≡ g (at x)) → forget (p >>= f) ≡ (q ▸ g)
+pub then-0 : {A B : Type 0} {q : Read} (at : A → ℕ) (p : Parsed A) (f : A → Parsed (B × ℕ)) (g : ℕ → Read) → Tells (place at p) q
+    → ((x : A) → Tells (forget (f x)) (g (at x))) → Tells (forget (p >>= f)) (q ▸ g)
 unfolding behind
 then-0 at p f g h e = then-more at p f g [] h e
 
-pub then-1 : {A B : Type 0} {q : Read} (at : A → ℕ) (p : Parsed A) (f : A → Parsed (B × ℕ)) (g h1 : ℕ → Read) → place at p ≡ q
-    → ((x : A) → forget (f x) ≡ (g (at x) ▸ h1)) → forget (p >>= f) ≡ (q ▸ g ▸ h1)
+pub then-1 : {A B : Type 0} {q : Read} (at : A → ℕ) (p : Parsed A) (f : A → Parsed (B × ℕ)) (g h1 : ℕ → Read) → Tells (place at p) q
+    → ((x : A) → Tells (forget (f x)) (g (at x) ▸ h1)) → Tells (forget (p >>= f)) (q ▸ g ▸ h1)
 unfolding behind
 then-1 at p f g h1 h e = then-more at p f g (h1 ∷ []) h e
 
-pub then-2 : {A B : Type 0} {q : Read} (at : A → ℕ) (p : Parsed A) (f : A → Parsed (B × ℕ)) (g h1 h2 : ℕ → Read) → place at p ≡ q
-    → ((x : A) → forget (f x) ≡ (g (at x) ▸ h1 ▸ h2)) → forget (p >>= f) ≡ (q ▸ g ▸ h1 ▸ h2)
+pub then-2 : {A B : Type 0} {q : Read} (at : A → ℕ) (p : Parsed A) (f : A → Parsed (B × ℕ)) (g h1 h2 : ℕ → Read) → Tells (place at p) q
+    → ((x : A) → Tells (forget (f x)) (g (at x) ▸ h1 ▸ h2)) → Tells (forget (p >>= f)) (q ▸ g ▸ h1 ▸ h2)
 unfolding behind
 then-2 at p f g h1 h2 h e = then-more at p f g (h1 ∷ h2 ∷ []) h e
 
 -- it ends there, but for the tree
-pub ends_so : {A B : Type 0} {q : Read} (at : A → ℕ) (p : Parsed A) (t : A → B) → place at p ≡ q → forget (p >>= (λ x. got (t x, at x))) ≡ q
+pub ends_so : {A B : Type 0} {q : Read} (at : A → ℕ) (p : Parsed A) (t : A → B) → Tells (place at p) q → Tells (forget (p >>= (λ x. got (t x, at x)))) q
 unfolding place ◌>>=◌
 ends_so at (got x) t h = h
 ends_so at (no k i) t h = h
 
-pub ends-behind : {A B : Type 0} {q : Read} (at : A → ℕ) (p : Parsed A) (t : A → B) → place at p ≡ q → forget (p >>= (λ x. got (t x, at x))) ≡ behind q []
+pub ends-behind : {A B : Type 0} {q : Read} (at : A → ℕ) (p : Parsed A) (t : A → B) → Tells (place at p) q → Tells (forget (p >>= (λ x. got (t x, at x)))) (behind q [])
 unfolding behind
 ends-behind at p t h = ends_so at p t h
 
-pub choice : {A : Type 0} {q s : Read} (b : Bool) (p r : Parsed (A × ℕ)) → forget p ≡ q → forget r ≡ s → forget (if b then p else r) ≡ (if b then q else s)
+pub choice : {A : Type 0} {q s : Read} (b : Bool) (p r : Parsed (A × ℕ)) → Tells (forget p) q → Tells (forget r) s → Tells (forget (if b then p else r)) (if b then q else s)
 choice true p r h e = h
 choice false p r h e = e
 
 -- two parsers that go over the same places
 abbrev pub Same : {A : Type 0} → Parser A → (ℕ → Read) → Type 0
-Same p q = (at : ℕ) → forget (p at) ≡ q at
+Same p q = (at : ℕ) → Tells (forget (p at)) (q at)
 
 module _ (W : ℕ → ℕ) where
-  pub word-is : (s at : ℕ) → place itself (paper.expect W s at) ≡ places.word W s at
+  pub word-is : (s at : ℕ) → Tells (place itself (paper.expect W s at)) (places.word W s at)
   unfolding paper.expect places.word place
-  word-is s at = test (eqb (W at) s) (λ t. rw t) (λ t. rw t)
+  word-is s at = test (eqb (W at) s) (λ t. rw t (record { is = refl })) (λ t. rw t (record { is = refl }))
 
-  pub type-is : (at : ℕ) → place itself (paper.expect_type W at) ≡ places.type_word W at
+  pub type-is : (at : ℕ) → Tells (place itself (paper.expect_type W at)) (places.type_word W at)
   unfolding paper.expect_type places.type_word place
-  type-is at = test (is_type (W at)) (λ t. rw t) (λ t. rw t)
+  type-is at = test (is_type (W at)) (λ t. rw t (record { is = refl })) (λ t. rw t (record { is = refl }))
 
   -- ---- expressions
 
@@ -109,18 +120,18 @@ module _ (W : ℕ → ℕ) where
         (λ t. rw (t, ne_eqb (W at) 1 (λ z. omega (arith, eqb-true (W at) 6 t)))
         (then-0 second (inner (at + 1)) _ _ (same (at + 1)) (λ x. ends_so itself (paper.expect W 7 x.1) _ (word-is 7 x.1))))
         (λ t. rw t (choice (eqb (W at) 1) _ _
-        (choice (eqb (W (at + 1)) 8) _ _ (then-0 second (inner (at + 2)) _ _ (same (at + 2)) (λ x. ends_so itself (paper.expect W 9 x.1) _ (word-is 9 x.1))) refl)
-        (choice (is_literal (W at)) _ _ refl refl)))
+        (choice (eqb (W (at + 1)) 8) _ _ (then-0 second (inner (at + 2)) _ _ (same (at + 2)) (λ x. ends_so itself (paper.expect W 9 x.1) _ (word-is 9 x.1))) (record { is = refl }))
+        (choice (is_literal (W at)) _ _ (record { is = refl }) (record { is = refl }))))
 
     chain-is : (j : ℕ) (sub : Parser Expr) (sub' : ℕ → Read) → Same sub sub' → (p : ℕ) (e : Expr) → Same (paper.chain W p j sub e) (turns (places.chain_turn W j sub') p)
     unfolding paper.chain turns places.chain_turn place
-    chain-is j sub sub' s zero e at = refl
+    chain-is j sub sub' s zero e at = (record { is = refl })
     chain-is j sub sub' s (suc p) e at =
         test (eqb (level_of (W at)) j)
         (λ t. rw (t, paper.chain) (test (eqb j 3)
         (λ u. rw u (ends_so second (sub (at + 1)) _ (s (at + 1))))
         (λ u. rw u (then-0 second (sub (at + 1)) _ _ (s (at + 1)) (λ x. chain-is j sub sub' s p _ x.1)))))
-        (λ t. rw (t, paper.chain))
+        (λ t. rw (t, paper.chain) (record { is = refl }))
 
     prefixed-is : (j : ℕ) (sub : Parser Expr) (sub' : ℕ → Read) → Same sub sub' → Same (paper.prefixed W j sub) (places.prefixed W j sub')
     unfolding paper.prefixed places.prefixed
@@ -137,7 +148,7 @@ module _ (W : ℕ → ℕ) where
 
   pub nested_is : (d : ℕ) → Same (paper.expr_in W d) (places.expression_in W d)
   unfolding paper.expr_in places.expression_in place
-  nested_is zero at = refl
+  nested_is zero at = (record { is = refl })
   nested_is (suc d) at = level-is (paper.expr_in W d) (places.expression_in W d) (nested_is d) 5 at
 
   pub expression-is : Same (paper.expr W) (places.expression W)
@@ -149,12 +160,12 @@ module _ (W : ℕ → ℕ) where
   module _ {A : Type 0} (one : Parser A) (one' : ℕ → Read) (same : Same one one') where
     separated-turns : (p : ℕ) → Same (paper.separated W p one) (turns (places.separated_turn W one') p)
     unfolding paper.separated turns places.separated_turn places.after_one place
-    separated-turns zero at = refl
+    separated-turns zero at = (record { is = refl })
     separated-turns (suc p) at =
         then-0 second (one at) _ (places.after_one W (turns (places.separated_turn W one') p)) (same at)
         (λ x. test (eqb (W x.1) 5)
         (λ t. rw t (ends_so second (paper.separated W p one (x.1 + 1)) _ (separated-turns p (x.1 + 1))))
-        (λ t. rw t))
+        (λ t. rw t (record { is = refl })))
 
     pub separated-is : Same (paper.separated W parts one) (places.separated W one')
     unfolding places.separated
@@ -162,11 +173,11 @@ module _ (W : ℕ → ℕ) where
 
     repeated-turns : (starts : ℕ → Bool) (p : ℕ) → Same (paper.repeated W p starts one) (turns (places.repeated_turn W starts one') p)
     unfolding paper.repeated turns places.repeated_turn place
-    repeated-turns starts zero at = refl
+    repeated-turns starts zero at = (record { is = refl })
     repeated-turns starts (suc p) at =
         test (starts (W at))
         (λ t. rw (t, paper.repeated) (then-0 second (one at) _ _ (same at) (λ x. ends_so second (paper.repeated W p starts one x.1) _ (repeated-turns starts p x.1))))
-        (λ t. rw (t, paper.repeated))
+        (λ t. rw (t, paper.repeated) (record { is = refl }))
 
     pub repeated-is : (starts : ℕ → Bool) → Same (paper.repeated W parts starts one) (places.repeated W starts one')
     unfolding places.repeated
@@ -178,11 +189,11 @@ module _ (W : ℕ → ℕ) where
 
   arguments-is : (s : ℕ) → Same (paper.arguments W s) (places.arguments W s)
   unfolding paper.arguments places.arguments place
-  arguments-is s at = choice (eqb (W at) s) _ _ refl (expressions-is at)
+  arguments-is s at = choice (eqb (W at) s) _ _ (record { is = refl }) (expressions-is at)
 
   unless-is : Same (paper.unless W 4) (places.optional W)
   unfolding paper.unless places.optional place
-  unless-is at = test (eqb (W at) 4) (λ t. rw (t, paper.unless)) (λ t. rw (t, paper.unless) (ends_so second (paper.expr W at) _ (expression-is at)))
+  unless-is at = test (eqb (W at) 4) (λ t. rw (t, paper.unless) (record { is = refl })) (λ t. rw (t, paper.unless) (ends_so second (paper.expr W at) _ (expression-is at)))
 
   -- ---- simple statements
 
@@ -192,8 +203,8 @@ module _ (W : ℕ → ℕ) where
       test (eqb (W at) 1)
       (λ t. rw (t, statements.target) (test (eqb (W (at + 1)) 8)
       (λ u. rw u (then-0 second (paper.expr_in W 16 (at + 2)) _ _ (nested_is 16 (at + 2)) (λ x. ends_so itself (paper.expect W 9 x.1) _ (word-is 9 x.1))))
-      (λ u. rw u)))
-      (λ t. rw (t, statements.target))
+      (λ u. rw u (record { is = refl }))))
+      (λ t. rw (t, statements.target) (record { is = refl }))
 
   right_is : (t : Target) → Same (statements.right_side W t) (places.right_side W)
   unfolding statements.right_side statements.call_side statements.value_side places.right_side
@@ -204,7 +215,7 @@ module _ (W : ℕ → ℕ) where
       (λ v. rw v (ends_so second (paper.expr W at) _ (expression-is at)))))
       (λ u. rw u (ends_so second (paper.expr W at) _ (expression-is at)))
 
-  assignment-is : (at : ℕ) → forget (statements.assignment W at) ≡ (places.target W at ▸ places.word W 11 ▸ places.right_side W)
+  assignment-is : (at : ℕ) → Tells (forget (statements.assignment W at)) (places.target W at ▸ places.word W 11 ▸ places.right_side W)
   unfolding statements.assignment
   assignment-is at =
       then-1 second (statements.target W at) _ _ _ (target_is at)
@@ -221,19 +232,19 @@ module _ (W : ℕ → ℕ) where
       test (eqb (W at) 21)
       (λ t. rw (t, statements.written) (then-1 itself (paper.expect W 89 (at + 1)) _ _ _ (word-is 89 (at + 1))
       (λ n. then-0 itself (paper.expect W 11 n) _ _ (word-is 11 n) (λ m. ends_so second (paper.expr W m) _ (expression-is m)))))
-      (λ t. rw (t, statements.written))
+      (λ t. rw (t, statements.written) (record { is = refl }))
 
-  write-is : (at : ℕ) → forget (statements.tp_write W at) ≡ places.writing W (at + 1)
+  write-is : (at : ℕ) → Tells (forget (statements.tp_write W at)) (places.writing W (at + 1))
   unfolding statements.tp_write places.writing
   write-is at = then-0 itself (paper.expect W 3 (at + 1)) _ _ (word-is 3 (at + 1)) (λ n. ends_so second (statements.written W n) _ (number_is n))
 
-  read_is : (at : ℕ) → forget (statements.tp_read_num W at) ≡ places.wanting W (at + 1)
+  read_is : (at : ℕ) → Tells (forget (statements.tp_read_num W at)) (places.wanting W (at + 1))
   unfolding statements.tp_read_num places.wanting
   read_is at =
       then-1 second (statements.target W (at + 1)) _ _ _ (target_is (at + 1))
       (λ x. then-0 itself (paper.expect W 5 x.1) _ _ (word-is 5 x.1) (λ m. ends_so itself (paper.expect W 3 m) _ (word-is 3 m)))
 
-  optional-is : (make : ℕ → Option Expr → Simple) (at : ℕ) → forget (statements.with_optional W make at) ≡ places.optional W (at + 1)
+  optional-is : (make : ℕ → Option Expr → Simple) (at : ℕ) → Tells (forget (statements.with_optional W make at)) (places.optional W (at + 1))
   unfolding statements.with_optional
   optional-is make at = ends_so second (paper.unless W 4 (at + 1)) _ (unless-is (at + 1))
 
@@ -243,11 +254,11 @@ module _ (W : ℕ → ℕ) where
       choice (eqb (W at) 1) _ _ (name-is at)
       (choice (eqb (W at) 74) _ _ (optional-is _ at)
       (choice (eqb (W at) 70) _ _ (optional-is _ at)
-      (choice (eqb (W at) 53) _ _ refl
-      (choice (eqb (W at) 73) _ _ refl
-      (choice (eqb (W at) 82) _ _ refl
+      (choice (eqb (W at) 53) _ _ (record { is = refl })
+      (choice (eqb (W at) 73) _ _ (record { is = refl })
+      (choice (eqb (W at) 82) _ _ (record { is = refl })
       (choice (eqb (W at) 91) _ _ (write-is at)
-      (choice (eqb (W at) 92) _ _ (read_is at) refl)))))))
+      (choice (eqb (W at) 92) _ _ (read_is at) (record { is = refl }))))))))
 
   pub simple-is : Same (statements.simple_statement W) (places.simple W)
   unfolding statements.simple_statement places.simple

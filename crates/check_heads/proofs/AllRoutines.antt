@@ -8,15 +8,15 @@ use native.Mathlib.Omega.{arith}
 use native.Mathlib.Numerals.{add-one}
 use lib.Dec.{eqb}
 use lib.ListN.{length, get_or, drop}
-use borrow.Author.Tests.{eq-eqb, ne_eqb, not-true, not-false}
+use borrow.Author.Tests.{eq-eqb, ne_eqb}
 use Rattle.laws.proofs.Tests.{test, by-same, by_less, by_last, false-true}
 use Rattle.std.specs.Prelude.{if◌then◌else◌}
 use Rattle.paper.specs.Sorts.{bytes, equal_texts, FUNC, ENDPROC, ENDFUNC}
 use Rattle.paper.specs.Words.{Word, word_limit}
 use Rattle.paper.specs.Trees.{Expr, Routine, Module}
 use Rattle.paper.specs.Expressions.{starts_routine}
-use Rattle.paper.specs.Names.{Meaning, unknown, the_routine, routine_in, Text, sort_in, spelled, look_in, protected, meaning}
-use Rattle.paper.specs.Declarations.{Signature, data_texts, routine_names, signature, signatures}
+use Rattle.paper.specs.Names.{Meaning, unknown, routine_in, Text, sort_in, spelled, look_in, protected, meaning}
+use Rattle.paper.specs.Declarations.{Signature, data_texts, routine_names, signatures}
 use Rattle.paper.specs.Checks.{no_signature, is_main, main_in, main_of}
 use Rattle.store_cells.specs.Cells.{cells_of, Put, Cleared}
 use Rattle.store_cells.proofs.Kept.{put_same, put_other, clear-length, clear-drop, clear_in, clear_above}
@@ -42,7 +42,9 @@ use Rattle.check_heads.proofs.Leaves.{next-is}
 use Rattle.check_heads.proofs.RoutineHead.{end-inside, close-inside, name-before, name-behind}
 use Rattle.check_heads.proofs.RoutineNumbers.{drop-next, drop-less, drop_all, heads-length, head-at, signatures-length, signature_at, word_at, numbered-at}
 use Rattle.check_heads.proofs.NamesOfRoutines.{routine-meant}
-use Rattle.check_heads.proofs.NamesTaken.{NamesLeft, names-kept, names-still, names-then, names-start, names-tables, main-missing, main-there}
+use Rattle.check_heads.proofs.NamesTaken.{NamesLeft, names-kept, names-still, names-then, names-start, names-tables, main-last, main_is, first_main, none-some, same-some}
+use Rattle.std.specs.Prelude.{Option as Found, Some, None, IfSome}
+use Rattle.std.proofs.lemmas.Option.{IfSome_then}
 
 -- ---- signatures
 head-kept : (C D : List ℕ) (h : ℕ) → head_at D h ≡ head_at C h → head_in D h ≡ head_in C h
@@ -72,10 +74,15 @@ head-word : (rs : List Routine) (k : ℕ) (r : Routine) (rest : List Routine) �
 unfolding head_for
 head-word rs k r rest e = ap (λ (h : Head). h.word) (head-at rs k r rest e)
 
-either-low : (a b : Bool) (main i : ℕ) → main ≤ i → (if a then (if b then i else main) else main) ≤ i
-either-low true true main i h = omega arith
-either-low true false main i h = h
-either-low false b main i h = h
+first-low : (b : Bool) (main : Found ℕ) (i : ℕ) → IfSome main (λ h. h ≤ i) → IfSome (first_main b i main) (λ h. h ≤ i)
+first-low true None i h = omega arith
+first-low false None i h = h
+first-low b (Some m) i h = h
+
+first-after : (text C : List ℕ) (name h : ℕ) (main : Found ℕ) → main_after text C name h main ≡ first_main (equal_texts (spelled_at text C name) (bytes "MAIN")) h main
+unfolding main_after
+first-after text C name h None = refl
+first-after text C name h (Some m) = refl
 
 -- ---- main
 main-plain : (W : List Word) (m : Module) → meaning (first_scopes W m) (bytes "MAIN") ≡ look_in (routine_names W (data_texts W m.declared) 0 m.routines) (bytes "MAIN") unknown
@@ -96,50 +103,39 @@ module _ (W : List Word) (m : Module) (C : List ℕ) where
       test (eqb (op_at C h) FUNC) (λ t. rw (t, is_main))
       (λ t. rw (t, is_main) (ap (λ (n : ℕ). eqb n 0) (types-length C (first_parameter C h) (value_at C h))))
 
-  pub main-at : (main r : ℕ) → r ≡ main_word C main
-      → (main ≡ 0 → look_in (routine_names W (data_texts W m.declared) 0 m.routines) (bytes "MAIN") unknown ≡ unknown)
-      → ((main ≡ 0 → ⊥) → look_in (routine_names W (data_texts W m.declared) 0 m.routines) (bytes "MAIN") unknown ≡ the_routine (numbered (heads_for m.routines) main))
-      → ((main ≡ 0 → ⊥) → numbered (heads_for m.routines) main < length (heads_for m.routines))
-      → ((main ≡ 0 → ⊥) → (get_or (heads_for m.routines) (numbered (heads_for m.routines) main) no_head).word ≡ main)
+  none-at : (r : Found ℕ) → r ≡ None → main_of W m ≡ none → MainAt (heads_for m.routines) (main_of W m) r
+  none-at r q e = record { missing = λ _. e; found = λ h p. none-some (sym q ∙ p); inside = λ h p. none-some (sym q ∙ p); begins = λ h p. none-some (sym q ∙ p) }
+
+  some-at : (r : Found ℕ) (h : ℕ) → r ≡ Some h → main_of W m ≡ some (numbered (heads_for m.routines) h) → numbered (heads_for m.routines) h < length (heads_for m.routines)
+      → (get_or (heads_for m.routines) (numbered (heads_for m.routines) h) no_head).word ≡ h → MainAt (heads_for m.routines) (main_of W m) r
+  some-at r h q e l w = record {
+    missing = λ p. none-some (sym p ∙ q);
+    found = λ j p. e ∙ ap (λ (x : ℕ). some (numbered (heads_for m.routines) x)) (same-some (sym q ∙ p));
+    inside = λ j p. subst (λ (x : ℕ). numbered (heads_for m.routines) x < length (heads_for m.routines)) (same-some (sym q ∙ p)) l;
+    begins = λ j p. subst (λ (x : ℕ). (get_or (heads_for m.routines) (numbered (heads_for m.routines) x) no_head).word ≡ x) (same-some (sym q ∙ p)) w;
+  }
+
+  pub main-at : (main r : Found ℕ) → r ≡ main_word C main
+      → look_in (routine_names W (data_texts W m.declared) 0 m.routines) (bytes "MAIN") unknown ≡ main_is (numbered (heads_for m.routines)) main unknown
+      → ((h : ℕ) → main ≡ Some h → numbered (heads_for m.routines) h < length (heads_for m.routines))
+      → ((h : ℕ) → main ≡ Some h → (get_or (heads_for m.routines) (numbered (heads_for m.routines) h) no_head).word ≡ h)
       → ((q : ℕ) → q < length (heads_for m.routines) → signature_in C (get_or (heads_for m.routines) q no_head).word ≡ get_or sigs q no_signature)
       → MainAt (heads_for m.routines) (main_of W m) r
   unfolding main_word main_in routine_in
-  main-at main r e missing there less word signed =
-      by-same main 0
-      (λ z. let q : r ≡ 0 = e ∙ rw (eq-eqb main 0 z) in record {
-        missing = λ _. main-of-is ∙ ap (λ (x : Meaning). main_in W sigs (routine_in x)) (missing z);
-        found = λ d. absurd (d q);
-        inside = λ d. absurd (d q);
-        begins = λ d. absurd (d q);
-      })
-      (λ d.
-      let k = numbered (heads_for m.routines) main in
-      let sig : get_or sigs k no_signature ≡ signature_in C main = sym (signed k (less d)) ∙ ap (signature_in C) (word d) in
-      let whole : main_of W m ≡ (if (if eqb (op_at C main) FUNC then false else eqb (value_at C main) 0) then some k else none) =
-      main-of-is ∙ ap (λ (x : Meaning). main_in W sigs (routine_in x)) (there d) ∙ ap (λ (s : Signature). if is_main W s then some k else none) sig ∙ ap (λ (b : Bool). if b then some k else none) (is-main-in main) in
-      test (eqb (op_at C main) FUNC)
-      (λ t. let q : r ≡ 0 = e ∙ rw (ne_eqb main 0 d) (rw t) in record {
-        missing = λ _. whole ∙ rw t;
-        found = λ f. absurd (f q);
-        inside = λ f. absurd (f q);
-        begins = λ f. absurd (f q);
-      })
-      (λ t. by-same (value_at C main) 0
-      (λ v. let q : r ≡ main = e ∙ rw (ne_eqb main 0 d) (rw t (rw (eq-eqb (value_at C main) 0 v))) in record {
-        missing = λ z. absurd (d (sym q ∙ z));
-        found = λ _. whole ∙ rw t (rw (eq-eqb (value_at C main) 0 v) (ap (λ (x : ℕ). some (numbered (heads_for m.routines) x)) (sym q)));
-        inside = λ _. subst (λ (x : ℕ). numbered (heads_for m.routines) x < length (heads_for m.routines)) (sym q) (less d);
-        begins = λ _. subst (λ (x : ℕ). (get_or (heads_for m.routines) (numbered (heads_for m.routines) x) no_head).word ≡ x) (sym q) (word d);
-      })
-      (λ v. let q : r ≡ 0 = e ∙ rw (ne_eqb main 0 d) (rw t (rw (ne_eqb (value_at C main) 0 v))) in record {
-        missing = λ _. whole ∙ rw t (rw (ne_eqb (value_at C main) 0 v));
-        found = λ f. absurd (f q);
-        inside = λ f. absurd (f q);
-        begins = λ f. absurd (f q);
-      })))
+  main-at None r e means less word signed = none-at r e (main-of-is ∙ ap (λ (x : Meaning). main_in W sigs (routine_in x)) means)
+  main-at (Some h) r e means less word signed =
+      let k = numbered (heads_for m.routines) h in
+      let sig : get_or sigs k no_signature ≡ signature_in C h = sym (signed k (less h refl)) ∙ ap (signature_in C) (word h refl) in
+      let whole : main_of W m ≡ (if (if eqb (op_at C h) FUNC then false else eqb (value_at C h) 0) then some k else none) =
+      main-of-is ∙ ap (λ (x : Meaning). main_in W sigs (routine_in x)) means ∙ ap (λ (s : Signature). if is_main W s then some k else none) sig ∙ ap (λ (b : Bool). if b then some k else none) (is-main-in h) in
+      test (eqb (op_at C h) FUNC)
+      (λ t. none-at r (e ∙ rw t) (whole ∙ rw t))
+      (λ t. by-same (value_at C h) 0
+      (λ v. some-at r h (e ∙ rw t (rw (eq-eqb (value_at C h) 0 v))) (whole ∙ rw t (rw (eq-eqb (value_at C h) 0 v))) (less h refl) (word h refl))
+      (λ v. none-at r (e ∙ rw t (rw (ne_eqb (value_at C h) 0 v))) (whole ∙ rw t (rw (ne_eqb (value_at C h) 0 v)))))
 
 -- ---- what is left
-pub record RoutinesLeft {text code₀ values₀ : List ℕ} {at : ℕ} (g : RoutinesStand text code₀ values₀ at) (code values : List ℕ) (i k main : ℕ) : Type 0 where
+pub record RoutinesLeft {text code₀ values₀ : List ℕ} {at : ℕ} (g : RoutinesStand text code₀ values₀ at) (code values : List ℕ) (i k : ℕ) (main : Found ℕ) : Type 0 where
   pub rest : List Routine
   pub form : RoutinesAt (sort_in g.W) (Parses (sort_in g.W)) rest i g.end
   pub dropped : drop k g.m.routines ≡ rest
@@ -153,24 +149,24 @@ pub record RoutinesLeft {text code₀ values₀ : List ℕ} {at : ℕ} (g : Rout
   pub untouched : (n : ℕ) → i ≤ n → n < word_limit → get_or (cells_of values) n 0 ≡ 0
   pub marked : Marked code₀ code at i
   pub kept : Kept values₀ values 0 store_cells
-  pub main-low : main ≤ i
+  pub main-low : IfSome main (λ h. h ≤ i)
   pub from : at ≤ i
   pub few : k ≤ i
 
-pub record RoutinesPlain (code₀ values₀ code values : List ℕ) (i k main : ℕ) : Type 0 where
+pub record RoutinesPlain (code₀ values₀ code values : List ℕ) (i k : ℕ) (main : Found ℕ) : Type 0 where
   pub code-long : length code ≡ length code₀
   pub values-long : length values ≡ length values₀
   pub room : i * 8 + 8 ≤ length code
   pub last : i < word_limit
   pub values-room : store_bytes ≤ length values
   pub few : k ≤ i
-  pub main-room : main * 8 + 8 ≤ length code
+  pub main-room : IfSome main (λ h. h * 8 + 8 ≤ length code)
 
-pub record RoutinesGo (text code₀ values₀ : List ℕ) (at : ℕ) (code values : List ℕ) (i k main : ℕ) : Type 0 where
+pub record RoutinesGo (text code₀ values₀ : List ℕ) (at : ℕ) (code values : List ℕ) (i k : ℕ) (main : Found ℕ) : Type 0 where
   pub plain : RoutinesPlain code₀ values₀ code values i k main
   pub left : (g : RoutinesStand text code₀ values₀ at) → RoutinesLeft g code values i k main
 
-module _ {text code₀ values₀ : List ℕ} {at : ℕ} (g : RoutinesStand text code₀ values₀ at) (code values : List ℕ) (i k main : ℕ) (l : RoutinesLeft g code values i k main) where
+module _ {text code₀ values₀ : List ℕ} {at : ℕ} (g : RoutinesStand text code₀ values₀ at) (code values : List ℕ) (i k : ℕ) (main : Found ℕ) (l : RoutinesLeft g code values i k main) where
   abbrev W : List Word
   W = g.W
 
@@ -188,7 +184,7 @@ module _ {text code₀ values₀ : List ℕ} {at : ℕ} (g : RoutinesStand text 
     last = omega (arith, here, g.lain.most);
     values-room = omega (arith, l.kept.long, g.room);
     few = l.few;
-    main-room = omega (arith, here, l.main-low, l.marked.kept.long, g.lain.room, g.lain.most);
+    main-room = IfSome_then main l.main-low (λ h u. omega (arith, here, u, l.marked.kept.long, g.lain.room, g.lain.most));
   }
 
   lain : Lain W code
@@ -199,7 +195,7 @@ module _ {text code₀ values₀ : List ℕ} {at : ℕ} (g : RoutinesStand text 
     starts_is = f ∙ ap starts_routine (e ∙ lain.sorts i here)
 
     -- ---- behind the last one
-    module _ (t : b ≡ false) (values' : List ℕ) (c : Cleared values values' 0 i) (r : ℕ) (z : r ≡ main_word (cells_of code) main) where
+    module _ (t : b ≡ false) (values' : List ℕ) (c : Cleared values values' 0 i) (r : Found ℕ) (z : r ≡ main_word (cells_of code) main) where
       none_left : (l.rest ≡ []) × (g.end ≡ i)
       none_left = repeated-none (sort_in W) (RoutineAt (sort_in W) (Parses (sort_in W))) l.form (sym starts_is ∙ t)
 
@@ -232,7 +228,7 @@ module _ {text code₀ values₀ : List ℕ} {at : ℕ} (g : RoutinesStand text 
         };
         heads = record { as_many = heads-length rs ∙ sym (signatures-length W g.m 0 rs); each = signature-each };
         marked = subst (Marked code₀ code at) (sym none_left.1) l.marked;
-        main = main-at W g.m (cells_of code) main r z (main-missing W g.m (cells_of values') l.earlier k main names-last) (main-there W g.m (cells_of values') l.earlier k main names-last)
+        main = main-at W g.m (cells_of code) main r z (main-last W g.m (cells_of values') l.earlier k main names-last)
             names-last.main-less names-last.main-word each;
       }
 
@@ -323,7 +319,7 @@ module _ {text code₀ values₀ : List ℕ} {at : ℕ} (g : RoutinesStand text 
             turned false h = refl
 
         -- ---- its name
-        module _ (values₂ : List ℕ) (main' : ℕ) (y : Takes text code' values₁ i name main values₂ main') where
+        module _ (values₂ : List ℕ) (main' : Found ℕ) (y : Takes text code' values₁ i name main values₂ main') where
           number_is : number_at (cells_of code') name ≡ number_of W name
           number_is = lain-then.numbers name is_name
 
@@ -343,7 +339,7 @@ module _ {text code₀ values₀ : List ℕ} {at : ℕ} (g : RoutinesStand text 
             pub names : NamesLeft W g.m (cells_of values₂) earlier (suc k) one.rest main'
             pub below : (n : ℕ) → n < word_limit → get_or (cells_of values₂) n 0 ≡ get_or (cells_of values₁) n 0
             pub kept : Kept values₁ values₂ 0 store_cells
-            pub main-low : main' ≤ i
+            pub main-low : IfSome main' (λ h. h ≤ i)
 
           took-free : meaning_at (cells_of code') (cells_of values₁) name ≡ 0 → Took
           unfolding main_after
@@ -352,28 +348,28 @@ module _ {text code₀ values₀ : List ℕ} {at : ℕ} (g : RoutinesStand text 
               let room : (first_meaning + number_of W name) * 4 + 4 ≤ length values₁ = omega (arith, number-low, values-long₁, g.room) in
               let numbers : number_of W name ≡ number_of W one.a.name = ap (number_of W) name-is in
               let spelt : spelled_at text (cells_of code') name ≡ spelled W one.a.name = spells_then.is name is_name ∙ ap (spelled W) name-is in
-              let after : main' ≡ (if eqb main 0 then (if equal_texts (spelled W one.a.name) (bytes "MAIN") then i else main) else main) =
-              y.main-then q ∙ ap (λ (u : Text). if eqb main 0 then (if equal_texts u (bytes "MAIN") then i else main) else main) spelt in
+              let after : main' ≡ first_main (equal_texts (spelled W one.a.name) (bytes "MAIN")) i main =
+              y.main-then q ∙ first-after text (cells_of code') name i main ∙ ap (λ (u : Text). first_main (equal_texts u (bytes "MAIN")) i main) spelt in
               record {
                 earlier = spelled W one.a.name ∷ l.earlier;
-                names = names-then W g.m (cells_of values₁) l.earlier k one.a one.rest main names₁ one.one.name i (omega (arith, g.some, l.from)) number-k k-less head-word-is (cells_of values₂) (sym cell-is ∙ q)
+                names = names-then W g.m (cells_of values₁) l.earlier k one.a one.rest main names₁ one.one.name i number-k k-less head-word-is (cells_of values₂) (sym cell-is ∙ q)
                     (λ j n d. ap (λ (x : ℕ). get_or (cells_of values₂) (first_meaning + x) 0) (d ∙ sym numbers) ∙ put_same put room)
                     (λ j n d. put_other put room (first_meaning + number_of W j) (λ x. d (omega (arith, numbers))))
                     main' after;
                 below = λ n h. put_other put room n (λ x. omega arith);
                 kept = put-kept 0 store_cells put room (omega arith) (omega (arith, number-low));
-                main-low = subst (λ (x : ℕ). x ≤ i) (sym after) (either-low (eqb main 0) (equal_texts (spelled W one.a.name) (bytes "MAIN")) main i l.main-low);
+                main-low = subst (λ (x : Found ℕ). IfSome x (λ h. h ≤ i)) (sym after) (first-low (equal_texts (spelled W one.a.name) (bytes "MAIN")) main i l.main-low);
               }
 
           took-taken : (meaning_at (cells_of code') (cells_of values₁) name ≡ 0 → ⊥) → Took
           took-taken d = record {
             earlier = l.earlier;
-            names = subst (λ (x : ℕ). NamesLeft W g.m (cells_of values₂) l.earlier (suc k) one.rest x) (sym (y.main-still d))
+            names = subst (λ (x : Found ℕ). NamesLeft W g.m (cells_of values₂) l.earlier (suc k) one.rest x) (sym (y.main-still d))
                 (subst (λ (v : List ℕ). NamesLeft W g.m (cells_of v) l.earlier (suc k) one.rest main) (sym (y.taken d))
                 (names-still W g.m (cells_of values₁) l.earlier k one.a one.rest main names₁ one.one.name (λ q. d (cell-is ∙ q))));
             below = λ n h. ap (λ (v : List ℕ). get_or (cells_of v) n 0) (y.taken d);
             kept = subst (λ (v : List ℕ). Kept values₁ v 0 store_cells) (sym (y.taken d)) (kept_same values₁ 0 store_cells);
-            main-low = subst (λ (x : ℕ). x ≤ i) (sym (y.main-still d)) l.main-low;
+            main-low = subst (λ (x : Found ℕ). IfSome x (λ h. h ≤ i)) (sym (y.main-still d)) l.main-low;
           }
 
           took : Took
@@ -424,17 +420,17 @@ module _ {text code₀ values₀ : List ℕ} {at : ℕ} (g : RoutinesStand text 
                 untouched = λ n a h. took.below n h ∙ cell-above p.kept n a ∙ l.untouched n (omega arith) h;
                 marked = marked_all;
                 kept = kept_on l.kept (kept_on (kept-wider p.kept 0 store_cells (omega arith) (omega (arith, to_is, end_low, g.lain.most))) took.kept);
-                main-low = omega (arith, took.main-low);
+                main-low = IfSome_then main' took.main-low (λ h u. omega (arith, u, far));
                 from = omega (arith, l.from);
                 few = omega (arith, l.few);
               }))
 
 -- ---- the loop
 module _ (text code values : List ℕ) (at : ℕ) (g : RoutinesStand text code values at) where
-  pub routines-start : RoutinesGo text code values at code values at 0 0
-  routines-start = record { plain = routines-plain g code values at 0 0 (starts g); left = starts }
+  pub routines-start : RoutinesGo text code values at code values at 0 None
+  routines-start = record { plain = routines-plain g code values at 0 None (starts g); left = starts }
     where
-      starts : (g : RoutinesStand text code values at) → RoutinesLeft g code values at 0 0
+      starts : (g : RoutinesStand text code values at) → RoutinesLeft g code values at 0 None
       starts g = record {
         rest = g.m.routines;
         form = g.form;
@@ -448,20 +444,17 @@ module _ (text code values : List ℕ) (at : ℕ) (g : RoutinesStand text code v
         untouched = λ n a h. g.zeros n h;
         marked = marked-same code at at;
         kept = kept_same values 0 store_cells;
-        main-low = omega arith;
+        main-low = tt;
         from = omega arith;
         few = omega arith;
       }
 
-module _ (text code₀ values₀ : List ℕ) (at : ℕ) (g : RoutinesStand text code₀ values₀ at) (code values : List ℕ) (i k main : ℕ) (l : RoutinesGo text code₀ values₀ at code values i k main)
+module _ (text code₀ values₀ : List ℕ) (at : ℕ) (g : RoutinesStand text code₀ values₀ at) (code values : List ℕ) (i k : ℕ) (main : Found ℕ) (l : RoutinesGo text code₀ values₀ at code values i k main)
     (s : ℕ) (e : s ≡ op_at (cells_of code) i) (b : Bool) (f : b ≡ starts_routine s) where
-  pub routines-done : not b ≡ true → (values' : List ℕ) → Cleared values values' 0 i → (r : ℕ) → r ≡ main_word (cells_of code) main → Routines text code₀ values₀ at code values' r
-  routines-done t values' c r z = record { is = λ g. routines-known g code values i k main (l.left g) s e b f (not-true b t) values' c r z }
+  pub routines-done : b ≡ false → (values' : List ℕ) → Cleared values values' 0 i → (r : Found ℕ) → r ≡ main_word (cells_of code) main → Routines text code₀ values₀ at code values' r
+  routines-done t values' c r z = record { is = λ g. routines-known g code values i k main (l.left g) s e b f t values' c r z }
 
-  module _ (u : not b ≡ false) where
-    t : b ≡ true
-    t = not-false b u
-
+  module _ (t : b ≡ true) where
     pub head-asks : RoutineStands code values i k
     head-asks = routine-stands g code values i k main (l.left g) s e b f t
 
@@ -479,7 +472,7 @@ module _ (text code₀ values₀ : List ℕ) (at : ℕ) (g : RoutinesStand text 
       pub name-further : i < name
       name-further = omega (arith, name-is g code values i k main (l.left g) s e b f t code' values₁ name (known g), name-high g code values i k main (l.left g) s e b f t)
 
-      pub routines-again : (values₂ : List ℕ) (main' : ℕ) → Takes text code' values₁ i name main values₂ main' → (x : ℕ) → Next code' name ENDPROC ENDFUNC x → RoutinesGo text code₀ values₀ at code' values₂ (x + 1) (k + 1) main'
+      pub routines-again : (values₂ : List ℕ) (main' : Found ℕ) → Takes text code' values₁ i name main values₂ main' → (x : ℕ) → Next code' name ENDPROC ENDFUNC x → RoutinesGo text code₀ values₀ at code' values₂ (x + 1) (k + 1) main'
       routines-again values₂ main' y x v = record {
         plain = routines-plain g code' values₂ (x + 1) (k + 1) main' (routines-next g code values i k main (l.left g) s e b f t code' values₁ name (known g) values₂ main' y x v);
         left = λ g. routines-next g code values i k main (l.left g) s e b f t code' values₁ name (known g) values₂ main' y x v;

@@ -7,7 +7,6 @@ use Prim.Native.Nat.{ℕ, ◌+◌, ◌*◌, ◌<◌, ◌≤◌}
 use native.Mathlib.Omega.{arith}
 use lib.Dec.{eqb}
 use lib.ListN.{length, get_or}
-use borrow.Author.Tests.{not-true, not-false}
 use Rattle.laws.proofs.Tests.{test, by-same, by_less, false-true}
 use Rattle.paper.specs.Sorts.{equal_texts}
 use Rattle.paper.specs.Trees.{Declared}
@@ -272,13 +271,10 @@ data-start code values at g = record { plain = data-plain g values at (starts g)
     }
 
 module _ (code values₀ : List ℕ) (at : ℕ) (g : DataStand code values₀ at) (values : List ℕ) (i : ℕ) (l : DataGo code values₀ at values i) (s : ℕ) (e : s ≡ op_at (cells_of code) i) (b : Bool) (f : b ≡ starts_data s) where
-  pub data-done : not b ≡ true → Data code values₀ at values i
-  data-done t = record { is = λ g. data-end g values i (l.left g) s e b f (not-true b t) }
+  pub data-done : b ≡ false → Data code values₀ at values i
+  data-done t = record { is = λ g. data-end g values i (l.left g) s e b f t }
 
-  module _ (u : not b ≡ false) where
-    t : b ≡ true
-    t = not-false b u
-
+  module _ (t : b ≡ true) where
     pub data-announce : ((i + 2) * 8 + 8 ≤ length code) × (store_bytes ≤ length values)
     data-announce = (data-name g values i (l.left g) s e b f t, l.plain.values-room)
 

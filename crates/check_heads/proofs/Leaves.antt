@@ -1,21 +1,23 @@
 -- The smallest parts: one law for each place where they return.
 use Rattle.layout.specs.Parts.{spelled_part}
 use mathlib.Core.Path.{◌≡◌, refl, sym, ap, subst, ◌∙◌}
-use mathlib.Core.Bool.{Bool, true, false, ◌||◌}
+use mathlib.Core.Bool.{Bool, true, false}
 use mathlib.Core.List.{List, [], ◌∷◌, map}
-use Prim.Native.Nat.{ℕ, ◌+◌, ◌-◌, ◌*◌, ◌/◌, ◌<◌, ◌≤◌}
+use Prim.Native.Nat.{ℕ, ◌+◌, ◌-◌, ◌/◌, ◌<◌, ◌≤◌}
 use native.Mathlib.Omega.{arith}
 use lib.Dec.{eqb}
+use mir.Val.{bool_byte as from_bool}
 use lib.ListN.{get_or, take, drop}
+use Rattle.std.specs.Prelude.{Option, Some, None, is_some}
 use borrow.Author.Tests.{eq-eqb, ne_eqb}
 use Rattle.laws.proofs.Tests.{by_last, by_less, by-same, false-true}
 use Rattle.paper.specs.Sorts.{bytes, folded, equal_texts, FUNC}
 use Rattle.store_cells.specs.Cells.{cells_of, Got, Put}
 use Rattle.code.specs.Cells.{op_at, value_at, place_at}
-use Rattle.check_names.specs.Meanings.{a_routine, cell_with, first_meaning, protects_cell}
-use Rattle.check_names.specs.Promises.{Number, Meant, Protects, number_at, meaning_at}
+use Rattle.check_names.specs.Meanings.{a_routine, cell_with, first_meaning}
+use Rattle.check_names.specs.Promises.{Number, Meant, number_at, meaning_at}
 use Rattle.check_heads.specs.Stores.{Valued, spelled_at}
-use Rattle.check_heads.specs.Parts.{is_one_of, Has, Next, Announces, refuses, mark_of, Marks, Names, main_after, Takes, main_word}
+use Rattle.check_heads.specs.Parts.{is_one_of, Has, Next, Announces, refuses, mark_of, Marks, Names, main_after, Takes}
 
 -- ---- words
 -- the walk to a word has passed none of the two sorts
@@ -61,34 +63,18 @@ pub announce-free : (code values after : List ℕ) (i r n : ℕ) → Meant code 
 announce-free code values after i r n e z q p = record { free = λ _. subst (λ (k : ℕ). Put values after (first_meaning + k) 1) q p; taken = λ d. absurd (d (sym e ∙ z)) }
 
 -- ---- parameters
-module _ (m seen h n : ℕ) (b : Bool) (p : Protects m b) where
-  by_tests : (x y z : Bool) → protects_cell m ≡ x → eqb seen h ≡ y → eqb n 64 ≡ z → mark_of (refuses m seen h n) ≡ mark_of ((x || y) || z)
-  unfolding refuses
-  by_tests x y z e f g = rw (e, f, g)
+bit-mark : (b : Bool) → from_bool b ≡ mark_of b
+unfolding mark_of
+bit-mark true = refl
+bit-mark false = refl
 
-  pub mark-protected : b ≡ true → 1 ≡ mark_of (refuses m seen h n)
-  unfolding mark_of
-  mark-protected e = sym (by_tests true (eqb seen h) (eqb n 64) (sym p ∙ e) refl refl)
-
-  pub mark-seen : b ≡ false → seen ≡ h → 1 ≡ mark_of (refuses m seen h n)
-  unfolding mark_of
-  mark-seen e s = sym (by_tests false true (eqb n 64) (sym p ∙ e) (eq-eqb seen h s) refl)
-
-  pub mark-last : b ≡ false → (seen ≡ h → ⊥) → n ≡ 64 → 1 ≡ mark_of (refuses m seen h n)
-  unfolding mark_of
-  mark-last e s q = sym (by_tests false false true (sym p ∙ e) (ne_eqb seen h s) (eq-eqb n 64 q))
-
-  pub mark-none : b ≡ false → (seen ≡ h → ⊥) → (n ≡ 64 → ⊥) → 0 ≡ mark_of (refuses m seen h n)
-  unfolding mark_of
-  mark-none e s q = sym (by_tests false false false (sym p ∙ e) (ne_eqb seen h s) (ne_eqb n 64 q))
-
-pub marks : (code values after values' : List ℕ) (h i count n m seen r : ℕ) → Number code (i + 1) n → Got values (first_meaning + n) m → Got values n seen
-    → (r ≡ mark_of (refuses m seen h count)) × (r < 2) → Valued code after i r → Put values values' n h → Marks code values h i count after values'
-marks code values after values' h i count n m seen r e f g k v p =
+pub marks : (code values after values' : List ℕ) (h i count n m seen r : ℕ) (b : Bool) → Number code (i + 1) n → Got values (first_meaning + n) m → Got values n seen
+    → b ≡ refuses m seen h count → r ≡ from_bool b → Valued code after i r → Put values values' n h → Marks code values h i count after values'
+marks code values after values' h i count n m seen r b e f g k bit v p =
     let cell : m ≡ meaning_at (cells_of code) (cells_of values) (i + 1) = f ∙ ap (λ (x : ℕ). get_or (cells_of values) (first_meaning + x) 0) e in
     let was : seen ≡ get_or (cells_of values) (number_at (cells_of code) (i + 1)) 0 = g ∙ ap (λ (x : ℕ). get_or (cells_of values) x 0) e in
     record {
-      mark = subst (Valued code after i) (k.0 ∙ ap (λ (x : ℕ). mark_of (refuses x seen h count)) cell ∙ ap (λ (x : ℕ). mark_of (refuses (meaning_at (cells_of code) (cells_of values) (i + 1)) x h count)) was) v;
+      mark = subst (Valued code after i) (bit ∙ ap from_bool k ∙ bit-mark _ ∙ ap (λ (x : ℕ). mark_of (refuses x seen h count)) cell ∙ ap (λ (x : ℕ). mark_of (refuses (meaning_at (cells_of code) (cells_of values) (i + 1)) x h count)) was) v;
       seen = subst (λ (x : ℕ). Put values values' x h) e p;
     }
 
@@ -97,31 +83,38 @@ module _ (code : List ℕ) (h k s : ℕ) (e : s ≡ op_at (cells_of code) h) whe
   pub names-plain : (s ≡ FUNC → ⊥) → Names code h k code (h + 1)
   names-plain d = record { plain = λ _. refl; plain-name = λ _. refl; function = λ z. absurd (d (e ∙ z)); function-name = λ z. absurd (d (e ∙ z)) }
 
-  pub names-last : (after : List ℕ) → s ≡ FUNC → k ≡ 64 → Valued code after (h + 1) 1 → Names code h k after (h + 2)
-  unfolding mark_of
-  names-last after q z v = record {
+  pub names-function : (after : List ℕ) (v : ℕ) → s ≡ FUNC → v ≡ from_bool (eqb k 64) → Valued code after (h + 1) v → Names code h k after (h + 2)
+  names-function after v q bit p = record {
     plain = λ d. absurd (d (sym e ∙ q));
     plain-name = λ d. absurd (d (sym e ∙ q));
-    function = λ _. rw (eq-eqb k 64 z) v;
-    function-name = λ _. refl;
-  }
-
-  pub names-asked : (after : List ℕ) → s ≡ FUNC → (k ≡ 64 → ⊥) → Valued code after (h + 1) 0 → Names code h k after (h + 2)
-  unfolding mark_of
-  names-asked after q z v = record {
-    plain = λ d. absurd (d (sym e ∙ q));
-    plain-name = λ d. absurd (d (sym e ∙ q));
-    function = λ _. rw (ne_eqb k 64 z) v;
+    function = λ _. subst (Valued code after (h + 1)) (bit ∙ bit-mark (eqb k 64)) p;
     function-name = λ _. refl;
   }
 
 -- ---- taking a name
-module _ (text code values : List ℕ) (h name main r : ℕ) (e : Meant code values name r) where
+module _ (text C : List ℕ) (name h : ℕ) where
+  after-one : (o : Option ℕ) → is_some o ≡ true → o ≡ main_after text C name h o
+  unfolding main_after
+  after-one None d = false-true d
+  after-one (Some m) d = refl
+
+  module _ (b : Bool) (is : b ≡ equal_texts (spelled_at text C name) (bytes "MAIN")) where
+    after-here : (o : Option ℕ) → is_some o ≡ false → b ≡ true → Some h ≡ main_after text C name h o
+    unfolding main_after
+    after-here None d t = rw (sym is ∙ t)
+    after-here (Some m) d t = false-true (sym d)
+
+    after-other : (o : Option ℕ) → is_some o ≡ false → b ≡ false → o ≡ main_after text C name h o
+    unfolding main_after
+    after-other None d t = rw (sym is ∙ t)
+    after-other (Some m) d t = false-true (sym d)
+
+module _ (text code values : List ℕ) (h name : ℕ) (main : Option ℕ) (r : ℕ) (e : Meant code values name r) where
   pub takes-nothing : (r ≡ 0 → ⊥) → Takes text code values h name main values main
   takes-nothing d = record { free = λ z. absurd (d (e ∙ z)); main-then = λ z. absurd (d (e ∙ z)); taken = λ _. refl; main-still = λ _. refl }
 
   module _ (n cell : ℕ) (after : List ℕ) (z : r ≡ 0) (q : Number code name n) (is-cell : cell ≡ cell_with a_routine 0 0 h) (p : Put values after (first_meaning + n) cell) where
-    takes : (m : ℕ) → m ≡ main_after text (cells_of code) name h main → Takes text code values h name main after m
+    takes : (m : Option ℕ) → m ≡ main_after text (cells_of code) name h main → Takes text code values h name main after m
     takes m f = record {
       free = λ _. subst (λ (x : ℕ). Put values after x (cell_with a_routine 0 0 h)) (ap (λ (x : ℕ). first_meaning + x) q) (subst (Put values after (first_meaning + n)) is-cell p);
       main-then = λ _. f;
@@ -129,39 +122,17 @@ module _ (text code values : List ℕ) (h name main r : ℕ) (e : Meant code val
       main-still = λ d. absurd (d (sym e ∙ z));
     }
 
-    pub takes-second : (main ≡ 0 → ⊥) → Takes text code values h name main after main
-    unfolding main_after
-    takes-second d = takes main (rw (ne_eqb main 0 d))
+    pub takes-second : is_some main ≡ true → Takes text code values h name main after main
+    takes-second d = takes main (after-one text (cells_of code) name h main d)
 
-    module _ (b : Bool) (is : b ≡ equal_texts (spelled_at text (cells_of code) name) (bytes "MAIN")) (none : main ≡ 0) where
-      pub takes-main : b ≡ true → Takes text code values h name main after h
-      unfolding main_after
-      takes-main t = takes h (rw (eq-eqb main 0 none) (rw (sym is ∙ t)))
+    module _ (b : Bool) (is : b ≡ equal_texts (spelled_at text (cells_of code) name) (bytes "MAIN")) (none : is_some main ≡ false) where
+      pub takes-main : b ≡ true → Takes text code values h name main after (Some h)
+      takes-main t = takes (Some h) (after-here text (cells_of code) name h b is main none t)
 
       pub takes-other : b ≡ false → Takes text code values h name main after main
-      unfolding main_after
-      takes-other t = takes main (rw (eq-eqb main 0 none) (rw (sym is ∙ t)))
+      takes-other t = takes main (after-other text (cells_of code) name h b is main none t)
 
 -- ---- main
-module _ (code : List ℕ) (h : ℕ) where
-  pub main-none : h ≡ 0 → 0 ≡ main_word (cells_of code) h
-  unfolding main_word
-  main-none e = rw (eq-eqb h 0 e)
-
-  module _ (some : h ≡ 0 → ⊥) (s : ℕ) (e : s ≡ op_at (cells_of code) h) where
-    pub main_function : s ≡ FUNC → 0 ≡ main_word (cells_of code) h
-    unfolding main_word
-    main_function p = rw (ne_eqb h 0 some) (rw (eq-eqb (op_at (cells_of code) h) FUNC (sym e ∙ p)))
-
-    module _ (d : s ≡ FUNC → ⊥) (v : ℕ) (g : v ≡ value_at (cells_of code) h) where
-      pub main-asks : (v ≡ 0 → ⊥) → 0 ≡ main_word (cells_of code) h
-      unfolding main_word
-      main-asks f = rw (ne_eqb h 0 some) (rw (ne_eqb (op_at (cells_of code) h) FUNC (λ z. d (e ∙ z))) (rw (ne_eqb (value_at (cells_of code) h) 0 (λ z. f (g ∙ z)))))
-
-      pub main-found : v ≡ 0 → h ≡ main_word (cells_of code) h
-      unfolding main_word
-      main-found z = rw (ne_eqb h 0 some) (rw (ne_eqb (op_at (cells_of code) h) FUNC (λ z. d (e ∙ z))) (rw (eq-eqb (value_at (cells_of code) h) 0 (sym g ∙ z))))
-
 pub is-main-law : (text code : List ℕ) (i p v : ℕ) (b : Bool) → p ≡ place_at (cells_of code) i → v ≡ value_at (cells_of code) i
     → b ≡ equal_texts (map folded (take (p + v / spelled_part - p) (drop p text))) (map folded (77 ∷ 65 ∷ 73 ∷ 78 ∷ [])) → b ≡ equal_texts (spelled_at text (cells_of code) i) (bytes "MAIN")
 unfolding bytes folded

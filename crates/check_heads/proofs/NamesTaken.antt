@@ -1,5 +1,5 @@
 -- The names of routines, one after another: what the table says, and what it will say.
-use mathlib.Core.Path.{◌≡◌, refl, sym, ap, ap₂, subst, ◌∙◌}
+use mathlib.Core.Path.{◌≡◌, refl, sym, ap, subst, ◌∙◌}
 use mathlib.Core.Bool.{Bool, true, false, not}
 use mathlib.Core.List.{List, [], ◌∷◌}
 use mathlib.Core.Option.{none, some}
@@ -9,7 +9,7 @@ use lib.Dec.{eqb}
 use lib.ListN.{length, get_or}
 use borrow.Author.Tests.{eq-eqb, ne_eqb}
 use Rattle.laws.proofs.Tests.{test, by-same, apart}
-use Rattle.std.specs.Prelude.{if◌then◌else◌}
+use Rattle.std.specs.Prelude.{if◌then◌else◌, Option, Some, None}
 use Rattle.paper.specs.Sorts.{bytes, equal_texts}
 use Rattle.paper.specs.Words.{Word}
 use Rattle.paper.specs.Trees.{Routine, Module}
@@ -61,23 +61,40 @@ pending-some f c o d = rw (ne_eqb c 0 d)
 pending-none : (f : ℕ → ℕ) (c : ℕ) (o : Meaning) → c ≡ 0 → pending f c o ≡ o
 pending-none f c o e = rw (eq-eqb c 0 e)
 
-pub record NamesLeft (W : List Word) (m : Module) (X : List ℕ) (earlier : List Text) (k : ℕ) (rest : List Routine) (main : ℕ) : Type 0 where
+-- ---- main, by the word of the first routine that has its name
+-- what the name means: that routine, or what it means else
+abbrev pub main_is : (number : ℕ → ℕ) → Option ℕ → Meaning → Meaning
+main_is number None o = o
+main_is number (Some h) o = the_routine (number h)
+
+-- a routine begins at h, whose name is MAIN or not
+abbrev pub first_main : Bool → (h : ℕ) → Option ℕ → Option ℕ
+first_main b h None = if b then Some h else None
+first_main b h (Some m) = Some m
+
+pub none-some : {A : Type 0} {h : ℕ} → None ≡ Some h → A
+none-some e = apart (cc)
+
+pub same-some : {h j : ℕ} → Some h ≡ Some j → h ≡ j
+same-some e = cc
+
+pub record NamesLeft (W : List Word) (m : Module) (X : List ℕ) (earlier : List Text) (k : ℕ) (rest : List Routine) (main : Option ℕ) : Type 0 where
   pub means : (j : ℕ) → IsName W j → meaning (first_scopes W m) (spelled W j) ≡ pending (numbered (heads_for m.routines)) (cell_for W X j) (look_in (routine_names W earlier k rest) (spelled W j) unknown)
   pub free : (j : ℕ) → IsName W j → cannot_declare earlier (spelled W j) ≡ not (eqb (cell_for W X j) 0)
   pub guards : (j : ℕ) → IsName W j → protects_cell (cell_for W X j) ≡ is_protected (spelled W j)
   pub coming : (j : ℕ) → IsName W j → is_among (data_texts W m.declared) (spelled W j) ≡ true → is_protected (spelled W j) ≡ false → cell_for W X j ≡ 1
   pub exact : (j q : ℕ) → IsName W j → meaning_in (numbered (heads_for m.routines)) (cell_for W X j) ≡ the_routine q → cell_for W X j ≡ 20 + 256 * (get_or (heads_for m.routines) q no_head).word
   pub main-means : look_in (routine_names W (data_texts W m.declared) 0 m.routines) (bytes "MAIN") unknown
-      ≡ (if eqb main 0 then look_in (routine_names W earlier k rest) (bytes "MAIN") unknown else the_routine (numbered (heads_for m.routines) main))
-  pub main-less : (main ≡ 0 → ⊥) → numbered (heads_for m.routines) main < length (heads_for m.routines)
-  pub main-word : (main ≡ 0 → ⊥) → (get_or (heads_for m.routines) (numbered (heads_for m.routines) main) no_head).word ≡ main
+      ≡ main_is (numbered (heads_for m.routines)) main (look_in (routine_names W earlier k rest) (bytes "MAIN") unknown)
+  pub main-less : (h : ℕ) → main ≡ Some h → numbered (heads_for m.routines) h < length (heads_for m.routines)
+  pub main-word : (h : ℕ) → main ≡ Some h → (get_or (heads_for m.routines) (numbered (heads_for m.routines) h) no_head).word ≡ h
 
 module _ (W : List Word) (m : Module) where
   abbrev R : List Head
   R = heads_for m.routines
 
   -- other cells of the value store do not matter
-  pub names-kept : (X Y : List ℕ) (earlier : List Text) (k : ℕ) (rest : List Routine) (main : ℕ) → ((j : ℕ) → IsName W j → cell_for W Y j ≡ cell_for W X j) → NamesLeft W m X earlier k rest main → NamesLeft W m Y earlier k rest main
+  pub names-kept : (X Y : List ℕ) (earlier : List Text) (k : ℕ) (rest : List Routine) (main : Option ℕ) → ((j : ℕ) → IsName W j → cell_for W Y j ≡ cell_for W X j) → NamesLeft W m X earlier k rest main → NamesLeft W m Y earlier k rest main
   names-kept X Y earlier k rest main e l = record {
     means = λ j n. l.means j n ∙ ap (λ (c : ℕ). pending (numbered R) c (look_in (routine_names W earlier k rest) (spelled W j) unknown)) (sym (e j n));
     free = λ j n. l.free j n ∙ ap (λ (c : ℕ). not (eqb c 0)) (sym (e j n));
@@ -90,7 +107,7 @@ module _ (W : List Word) (m : Module) where
   }
 
   -- ---- one more routine
-  module _ (X : List ℕ) (earlier : List Text) (k : ℕ) (r : Routine) (rest : List Routine) (main : ℕ) (l : NamesLeft W m X earlier k (r ∷ rest) main) (name : IsName W r.name) where
+  module _ (X : List ℕ) (earlier : List Text) (k : ℕ) (r : Routine) (rest : List Routine) (main : Option ℕ) (l : NamesLeft W m X earlier k (r ∷ rest) main) (name : IsName W r.name) where
     pub names-still : (cell_for W X r.name ≡ 0 → ⊥) → NamesLeft W m X earlier (suc k) rest main
     names-still d =
         let e = names-taken W earlier k r rest (l.free r.name name ∙ ap not (ne_eqb (cell_for W X r.name) 0 d)) in
@@ -100,12 +117,12 @@ module _ (W : List Word) (m : Module) where
           guards = l.guards;
           coming = l.coming;
           exact = l.exact;
-          main-means = l.main-means ∙ ap (λ (N : Names). if eqb main 0 then look_in N (bytes "MAIN") unknown else the_routine (numbered R main)) e;
+          main-means = l.main-means ∙ ap (λ (N : Names). main_is (numbered R) main (look_in N (bytes "MAIN") unknown)) e;
           main-less = l.main-less;
           main-word = l.main-word;
         }
 
-    module _ (h : ℕ) (some : 0 < h) (number : numbered R h ≡ k) (less : k < length R) (word : (get_or R k no_head).word ≡ h) (Y : List ℕ) (z : cell_for W X r.name ≡ 0)
+    module _ (h : ℕ) (number : numbered R h ≡ k) (less : k < length R) (word : (get_or R k no_head).word ≡ h) (Y : List ℕ) (z : cell_for W X r.name ≡ 0)
         (same : (j : ℕ) → IsName W j → number_of W j ≡ number_of W r.name → cell_for W Y j ≡ 20 + 256 * h)
         (other : (j : ℕ) → IsName W j → (number_of W j ≡ number_of W r.name → ⊥) → cell_for W Y j ≡ cell_for W X j) where
       abbrev text : Text
@@ -165,49 +182,32 @@ module _ (W : List Word) (m : Module) where
       abbrev MAIN : Text
       MAIN = bytes "MAIN"
 
-      module _ (main' : ℕ) (is : main' ≡ (if eqb main 0 then (if equal_texts text MAIN then h else main) else main)) where
-        -- one was before
-        kept : (main ≡ 0 → ⊥) → main' ≡ main
-        kept d = is ∙ ap (λ (b : Bool). if b then (if equal_texts text MAIN then h else main) else main) (ne_eqb main 0 d)
+      record MainThen (main' : Option ℕ) : Type 0 where
+        pub told-means : look_in (routine_names W (data_texts W m.declared) 0 m.routines) MAIN unknown ≡ main_is (numbered R) main' (look_in after MAIN unknown)
+        pub told-less : (j : ℕ) → main' ≡ Some j → numbered R j < length R
+        pub told-word : (j : ℕ) → main' ≡ Some j → (get_or R (numbered R j) no_head).word ≡ j
 
-        taken : main ≡ 0 → equal_texts text MAIN ≡ true → main' ≡ h
-        taken e t = is ∙ ap₂ (λ (a b : Bool). if a then (if b then h else main) else main) (eq-eqb main 0 e) t
+      main-then : (main : Option ℕ) → look_in (routine_names W (data_texts W m.declared) 0 m.routines) MAIN unknown ≡ main_is (numbered R) main (look_in (routine_names W earlier k (r ∷ rest)) MAIN unknown)
+          → ((j : ℕ) → main ≡ Some j → numbered R j < length R) → ((j : ℕ) → main ≡ Some j → (get_or R (numbered R j) no_head).word ≡ j)
+          → (b : Bool) → equal_texts text MAIN ≡ b → MainThen (first_main b h main)
+      -- none was before, and it is one
+      main-then None means small begins true t = record {
+        told-means = means ∙ ap (λ (N : Names). look_in N MAIN unknown) new ∙ look-here text (the_routine k) after MAIN unknown t ∙ ap the_routine (sym number);
+        told-less = λ j q. subst (λ (x : ℕ). numbered R x < length R) (same-some q) (subst (λ (x : ℕ). x < length R) (sym number) less);
+        told-word = λ j q. subst (λ (x : ℕ). (get_or R (numbered R x) no_head).word ≡ x) (same-some q) (ap (λ (x : ℕ). (get_or R x no_head).word) number ∙ word);
+      }
+      -- none is yet
+      main-then None means small begins false t = record {
+        told-means = means ∙ ap (λ (N : Names). look_in N MAIN unknown) new ∙ look-further text (the_routine k) after MAIN unknown t;
+        told-less = λ j q. none-some q;
+        told-word = λ j q. none-some q;
+      }
+      -- one was before
+      main-then (Some m) means small begins b t = record { told-means = means; told-less = small; told-word = begins }
 
-        none_yet : main ≡ 0 → equal_texts text MAIN ≡ false → main' ≡ 0
-        none_yet e t = is ∙ ap₂ (λ (a b : Bool). if a then (if b then h else main) else main) (eq-eqb main 0 e) t ∙ e
-
-        record MainThen : Type 0 where
-          pub told-means : look_in (routine_names W (data_texts W m.declared) 0 m.routines) MAIN unknown ≡ (if eqb main' 0 then look_in after MAIN unknown else the_routine (numbered R main'))
-          pub told-less : (main' ≡ 0 → ⊥) → numbered R main' < length R
-          pub told-word : (main' ≡ 0 → ⊥) → (get_or R (numbered R main') no_head).word ≡ main'
-
-        abbrev MainIs : ℕ → Meaning → Meaning
-        MainIs x o = if eqb x 0 then o else the_routine (numbered R x)
-
-        main-then : MainThen
-        main-then =
-            by-same main 0
-            (λ e. test (equal_texts text MAIN)
-            (λ t. let q = taken e t in record {
-              told-means = l.main-means ∙ ap (λ (b : Bool). if b then look_in (routine_names W earlier k (r ∷ rest)) MAIN unknown else the_routine (numbered R main)) (eq-eqb main 0 e)
-                  ∙ ap (λ (N : Names). look_in N MAIN unknown) new ∙ look-here text (the_routine k) after MAIN unknown t
-                  ∙ sym (ap (λ (x : ℕ). MainIs x (look_in after MAIN unknown)) q ∙ ap (λ (b : Bool). if b then look_in after MAIN unknown else the_routine (numbered R h)) (ne_eqb h 0 (λ y. omega arith)) ∙ ap the_routine number);
-              told-less = λ _. subst (λ (x : ℕ). numbered R x < length R) (sym q) (subst (λ (x : ℕ). x < length R) (sym number) less);
-              told-word = λ _. subst (λ (x : ℕ). (get_or R (numbered R x) no_head).word ≡ x) (sym q) (ap (λ (x : ℕ). (get_or R x no_head).word) number ∙ word);
-            })
-            (λ t. let q = none_yet e t in record {
-              told-means = l.main-means ∙ ap (λ (b : Bool). if b then look_in (routine_names W earlier k (r ∷ rest)) MAIN unknown else the_routine (numbered R main)) (eq-eqb main 0 e)
-                  ∙ ap (λ (N : Names). look_in N MAIN unknown) new ∙ look-further text (the_routine k) after MAIN unknown t
-                  ∙ sym (ap (λ (x : ℕ). MainIs x (look_in after MAIN unknown)) q);
-              told-less = λ d. absurd (d q);
-              told-word = λ d. absurd (d q);
-            }))
-            (λ d. let q = kept d in record {
-              told-means = l.main-means ∙ ap (λ (b : Bool). if b then look_in (routine_names W earlier k (r ∷ rest)) MAIN unknown else the_routine (numbered R main)) (ne_eqb main 0 d)
-                  ∙ sym (ap (λ (x : ℕ). MainIs x (look_in after MAIN unknown)) q ∙ ap (λ (b : Bool). if b then look_in after MAIN unknown else the_routine (numbered R main)) (ne_eqb main 0 d));
-              told-less = λ _. subst (λ (x : ℕ). numbered R x < length R) (sym q) (l.main-less d);
-              told-word = λ _. subst (λ (x : ℕ). (get_or R (numbered R x) no_head).word ≡ x) (sym q) (l.main-word d);
-            })
+      module _ (main' : Option ℕ) (is : main' ≡ first_main (equal_texts text MAIN) h main) where
+        told : MainThen main'
+        told = subst MainThen (sym is) (main-then main l.main-means l.main-less l.main-word (equal_texts text MAIN) refl)
 
         pub names-then : NamesLeft W m Y (text ∷ earlier) (suc k) rest main'
         names-then = record {
@@ -216,9 +216,9 @@ module _ (W : List Word) (m : Module) where
           guards = guards_then;
           coming = coming-then;
           exact = exact-then;
-          main-means = main-then.told-means;
-          main-less = main-then.told-less;
-          main-word = main-then.told-word;
+          main-means = told.told-means;
+          main-less = told.told-less;
+          main-word = told.told-word;
         }
 
   -- ---- before the first
@@ -266,7 +266,7 @@ module _ (W : List Word) (m : Module) where
         (λ p. test (is_among D u) (λ a. ap (λ (c : ℕ). routine_in (meaning_in (numbered R) c)) (cell-coming D u p a) ∙ ap routine_in (one-unknown (numbered R)))
         (λ a. ap (λ (c : ℕ). routine_in (meaning_in (numbered R) c)) (cell-none D u p a) ∙ ap routine_in (zero-unknown (numbered R))))
 
-    pub names-start : NamesLeft W m X D 0 m.routines 0
+    pub names-start : NamesLeft W m X D 0 m.routines None
     unfolding routine_in
     names-start = record {
       means = λ j n. first-means (spelled W j) ∙ ap (λ (c : ℕ). pending (numbered R) c (look_in all (spelled W j) unknown)) (sym (cells j n));
@@ -275,15 +275,15 @@ module _ (W : List Word) (m : Module) where
       coming = λ j n a p. cells j n ∙ cell-coming D (spelled W j) p a;
       exact = λ j q n e. none_is (sym (first-exact (spelled W j)) ∙ ap (λ (c : ℕ). routine_in (meaning_in (numbered R) c)) (sym (cells j n)) ∙ ap routine_in e);
       main-means = refl;
-      main-less = λ d. absurd (d refl);
-      main-word = λ d. absurd (d refl);
+      main-less = λ h e. none-some e;
+      main-word = λ h e. none-some e;
     }
       where
         none_is : {A : Type 0} {q : ℕ} → none ≡ some q → A
         none_is e = apart (cc)
 
   -- ---- behind the last
-  module _ (X : List ℕ) (earlier : List Text) (k main : ℕ) (l : NamesLeft W m X earlier k [] main) where
+  module _ (X : List ℕ) (earlier : List Text) (k : ℕ) (main : Option ℕ) (l : NamesLeft W m X earlier k [] main) where
     last-means : (j : ℕ) → IsName W j → meaning_in (numbered R) (cell_for W X j) ≡ meaning (first_scopes W m) (spelled W j)
     unfolding routine_names look_in meaning_in meaning_with
     last-means j n =
@@ -298,10 +298,6 @@ module _ (W : List Word) (m : Module) where
       exact = λ j q n e. l.exact j q n (last-means j n ∙ e);
     }
 
-    pub main-missing : main ≡ 0 → look_in (routine_names W (data_texts W m.declared) 0 m.routines) (bytes "MAIN") unknown ≡ unknown
+    pub main-last : look_in (routine_names W (data_texts W m.declared) 0 m.routines) (bytes "MAIN") unknown ≡ main_is (numbered R) main unknown
     unfolding routine_names look_in
-    main-missing e = l.main-means ∙ ap (λ (b : Bool). if b then unknown else the_routine (numbered R main)) (eq-eqb main 0 e)
-
-    pub main-there : (main ≡ 0 → ⊥) → look_in (routine_names W (data_texts W m.declared) 0 m.routines) (bytes "MAIN") unknown ≡ the_routine (numbered R main)
-    unfolding routine_names look_in
-    main-there d = l.main-means ∙ ap (λ (b : Bool). if b then unknown else the_routine (numbered R main)) (ne_eqb main 0 d)
+    main-last = l.main-means

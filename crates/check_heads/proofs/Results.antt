@@ -5,6 +5,7 @@ use mathlib.Core.List.{List, [], ◌∷◌}
 use mathlib.Core.Option.{none, some}
 use Prim.Native.Nat.{ℕ, zero, suc, ◌+◌, ◌*◌, ◌/◌, ◌<◌}
 use native.Mathlib.Omega.{arith}
+use Rattle.std.specs.Prelude.{Option}
 use lib.ListN.{length, drop}
 use borrow.Author.Tests.{ne_eqb}
 use Rattle.laws.proofs.Tests.{test, apart, false-true}
@@ -32,7 +33,7 @@ use Rattle.check_heads.proofs.NamesTaken.{protected-plain}
 use Rattle.check_heads.proofs.WholePass.{begins-lain}
 
 -- ---- words
-module _ {text code values code' values' : List ℕ} {r : ℕ} (g : Begins text code values) (f : Foretells text code values code' values' r g.stands.words g.m) where
+module _ {text code values code' values' : List ℕ} {r : Option ℕ} (g : Begins text code values) (f : Foretells text code values code' values' r g.stands.words g.m) where
   pub heads-sorts : (i : ℕ) → i < length (words_in text) → op_at (cells_of code') i ≡ sort_in (words_in text) i
   heads-sorts = (lain-kept f.marked (words_in text) (begins-lain g)).sorts
 

@@ -1,25 +1,24 @@
 -- The whole pass over a module that was loaded.
 use Rattle.layout.specs.Parts.{spelled_part}
 use Rattle.check_names.specs.Promises.{number_limit}
-use mathlib.Core.Path.{◌≡◌, refl, sym, ap, ap₂, subst, ◌∙◌}
+use mathlib.Core.Path.{◌≡◌, sym, ap, ap₂, subst, ◌∙◌}
 use mathlib.Core.List.{List, map}
 use Prim.Native.Nat.{ℕ, ◌+◌, ◌-◌, ◌*◌, ◌/◌, ◌<◌, ◌≤◌}
 use native.Mathlib.Omega.{arith}
+use Rattle.std.specs.Prelude.{Option}
 use lib.ListN.{length, take, drop}
 use borrow.Author.Tests.{eq-eqb}
 use Rattle.paper.specs.Sorts.{folded, NAME}
-use Rattle.paper.specs.Words.{Word, reading}
+use Rattle.paper.specs.Words.{Word}
 use Rattle.paper.specs.Names.{nth, sort_in, spelled}
 use Rattle.store_cells.specs.Cells.{cells_of}
 use Rattle.check_names.specs.Numbers.{first_named, number_of, IsName}
 use Rattle.check_names.specs.Meanings.{protected_cell, cell_for}
 use Rattle.check_names.proofs.Spellings.{name-inside, number-most, number-named}
-use Rattle.check_load.specs.declared.Loaded.{Loaded}
 use Rattle.check_load.specs.Layout.{head_value, first_cell, words_in}
-use Rattle.check_load.specs.Loads.{answer_of, Loads}
 use Rattle.check_load.proofs.Bounds.{reading-good, reading-most}
 use Rattle.check_load.proofs.Chains.{true-first}
-use Rattle.check_load.proofs.Results.{loads-sorts, loads-numbers}
+use Rattle.check_load.proofs.Results.{sorts-loaded, numbers-loaded}
 use Rattle.grammar.specs.Form.{Parses, RoutinesAt}
 use Rattle.grammar.proofs.Places.{declarations-grow, routines-grow}
 use Rattle.check_heads.specs.Stores.{Lain, length_at, Spells}
@@ -33,24 +32,10 @@ module _ {text code values : List ℕ} (g : Begins text code values) where
   abbrev W : List Word
   W = words_in text
 
-  -- as if nothing had been changed by the loading
-  abbrev answer : Loaded
-  answer = answer_of (length W) (reading text).refusal
-
-  begins-loads : Loads text code values answer code values
-  begins-loads = record {
-    answer = refl;
-    heads = g.heads;
-    places = g.places;
-    zeros = g.zeros;
-    table = g.table;
-    keeping = record { rest = refl; beyond = refl; code-size = refl; values-size = refl };
-  }
-
   pub begins-lain : Lain W code
   begins-lain = record {
-    sorts = loads-sorts text code values answer code values begins-loads;
-    numbers = loads-numbers text code values answer code values begins-loads;
+    sorts = sorts-loaded text code g.heads;
+    numbers = numbers-loaded text code g.heads;
     most = reading-most text;
     room = g.code-room;
   }
@@ -128,7 +113,7 @@ module _ {text code values : List ℕ} (g : Begins text code values) where
       room = omega (arith, d.kept.long, g.values-room);
     }
 
-    foretold : (code' values' : List ℕ) (r : ℕ) → RoutinesKnown W g.m g.stands.form.end code values₁ at code' values' r → Foretells text code values code' values' r g.stands.words g.m
+    foretold : (code' values' : List ℕ) (r : Option ℕ) → RoutinesKnown W g.m g.stands.form.end code values₁ at code' values' r → Foretells text code values code' values' r g.stands.words g.m
     foretold code' values' r k = record {
       tables = k.tables;
       filled = record { zeros = k.filled.zeros; beyond = k.filled.beyond ∙ d.kept.above; long = k.filled.long ∙ d.kept.long };
@@ -145,6 +130,6 @@ module _ (text code values : List ℕ) (g : Begins text code values) (values₁ 
   pub routines-asked : RoutinesStand text code values₁ at
   routines-asked = read-routines g values₁ at (known g)
 
-  pub read_done : (code' values' : List ℕ) (r : ℕ) → Routines text code values₁ at code' values' r → Reads text code values code' values' r
+  pub read_done : (code' values' : List ℕ) (r : Option ℕ) → Routines text code values₁ at code' values' r → Reads text code values code' values' r
   unfolding read-routines
   read_done code' values' r k = record { is = λ g. foretold g values₁ at (known g) code' values' r (k.is (read-routines g values₁ at (known g))) }

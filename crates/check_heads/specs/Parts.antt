@@ -1,5 +1,5 @@
 -- The parts of reading the heads.
-use Rattle.std.specs.Prelude.{◌≡◌, Bool, true, false, ◌||◌, List, [], ℕ, ◌+◌, ◌*◌, ◌<◌, ◌≤◌, eqb, length, get_or, if◌then◌else◌}
+use Rattle.std.specs.Prelude.{◌≡◌, Bool, true, false, ◌||◌, List, [], ℕ, ◌+◌, ◌*◌, ◌<◌, ◌≤◌, eqb, length, get_or, if◌then◌else◌, Option, Some, None}
 use Rattle.paper.specs.Sorts.{bytes, equal_texts, close_paren, FUNC}
 use Rattle.paper.specs.Words.{Word, word_limit}
 use Rattle.paper.specs.Trees.{Declared, Parameter, Routine, Module}
@@ -139,20 +139,21 @@ pub record Begun (code values : List ℕ) (h k : ℕ) (code' values' : List ℕ)
 
 -- ---- its name
 -- the name is MAIN, and none was before
-unfoldable pub main_after : (text C : List ℕ) → (name h main : ℕ) → ℕ
-main_after text C name h main =
-    if eqb main 0 then (if equal_texts (spelled_at text C name) (bytes "MAIN") then h else main) else main
+unfoldable pub main_after : (text C : List ℕ) → (name h : ℕ) → (main : Option ℕ) → Option ℕ
+main_after text C name h None = if equal_texts (spelled_at text C name) (bytes "MAIN") then Some h else None
+main_after text C name h (Some m) = Some m
 
 -- A name that means nothing means the routine from now on.
-pub record Takes (text code values : List ℕ) (h name main : ℕ) (values' : List ℕ) (r : ℕ) : Type 0 where
+pub record Takes (text code values : List ℕ) (h name : ℕ) (main : Option ℕ) (values' : List ℕ) (r : Option ℕ) : Type 0 where
   pub free : meaning_at (cells_of code) (cells_of values) name ≡ 0 → Put values values' (first_meaning + number_at (cells_of code) name) (cell_with a_routine 0 0 h)
   pub main-then : meaning_at (cells_of code) (cells_of values) name ≡ 0 → r ≡ main_after text (cells_of code) name h main
   pub taken : (meaning_at (cells_of code) (cells_of values) name ≡ 0 → ⊥) → values' ≡ values
   pub main-still : (meaning_at (cells_of code) (cells_of values) name ≡ 0 → ⊥) → r ≡ main
 
--- the word that a PROC without parameters begins with; 0 for any other
-unfoldable pub main_word : (C : List ℕ) → (h : ℕ) → ℕ
-main_word C h = if eqb h 0 then 0 else if eqb (op_at C h) FUNC then 0 else if eqb (value_at C h) 0 then h else 0
+-- the word that a PROC without parameters begins with; none for any other
+unfoldable pub main_word : (C : List ℕ) → (main : Option ℕ) → Option ℕ
+main_word C None = None
+main_word C (Some h) = if eqb (op_at C h) FUNC then None else if eqb (value_at C h) 0 then Some h else None
 
 -- ---- the routines
 -- The module's routines stand from `at` on; the table has its data, and nothing was seen.
@@ -169,12 +170,12 @@ pub record RoutinesStand (text code values : List ℕ) (at : ℕ) : Type 0 where
   pub zeros : (n : ℕ) → n < first_meaning → get_or (cells_of values) n 0 ≡ 0
   pub room : store_bytes ≤ length values
 
-pub record RoutinesKnown (W : List Word) (m : Module) (end : ℕ) (code values : List ℕ) (at : ℕ) (code' values' : List ℕ) (r : ℕ) : Type 0 where
+pub record RoutinesKnown (W : List Word) (m : Module) (end : ℕ) (code values : List ℕ) (at : ℕ) (code' values' : List ℕ) (r : Option ℕ) : Type 0 where
   pub tables : Tables W m (cells_of values')
   pub filled : Filled values values'
   pub heads : Heads (cells_of code') (heads_for m.routines) (signatures W m 0 m.routines)
   pub marked : Marked code code' at end
   pub main : MainAt (heads_for m.routines) (main_of W m) r
 
-pub record Routines (text code values : List ℕ) (at : ℕ) (code' values' : List ℕ) (r : ℕ) : Type 0 where
+pub record Routines (text code values : List ℕ) (at : ℕ) (code' values' : List ℕ) (r : Option ℕ) : Type 0 where
   pub is : (g : RoutinesStand text code values at) → RoutinesKnown g.W g.m g.end code values at code' values' r

@@ -1,6 +1,7 @@
 -- What is promised: what is known before its declaration, for the checks that follow.
-use Rattle.std.specs.Prelude.{◌≡◌, true, false, List, ℕ, ◌+◌, ◌<◌, ◌≤◌, length, get_or, drop}
-use Rattle.std.proofs.Math.Option.{Option, none, some}
+use Rattle.std.specs.Prelude.{◌≡◌, true, false, List, ℕ, ◌+◌, ◌<◌, ◌≤◌, length, get_or, drop, Option, Some, None}
+use Rattle.std.proofs.Math.Option.{none, some}
+use Rattle.std.proofs.Math.Option as math
 use Rattle.paper.specs.Words.{Word}
 use Rattle.paper.specs.Trees.{Module}
 use Rattle.paper.specs.Names.{the_routine, nth, sort_in, spelled, is_among, meaning}
@@ -29,12 +30,12 @@ pub record Begins (text code values : List ℕ) : Type 0 where
   pub code-room : store_bytes ≤ length code
   pub values-room : store_bytes ≤ length values
 
--- The word that main begins with, 0 where there is none: "18: no PROC main without parameters".
-pub record MainAt (R : List Head) (main : Option ℕ) (r : ℕ) : Type 0 where
-  pub missing : r ≡ 0 → main ≡ none
-  pub found : (r ≡ 0 → ⊥) → main ≡ some (numbered R r)
-  pub inside : (r ≡ 0 → ⊥) → numbered R r < length R
-  pub begins : (r ≡ 0 → ⊥) → (get_or R (numbered R r) no_head).word ≡ r
+-- The word that main begins with, none where there is no main: "18: no PROC main without parameters".
+pub record MainAt (R : List Head) (main : math.Option ℕ) (r : Option ℕ) : Type 0 where
+  pub missing : r ≡ None → main ≡ none
+  pub found : (h : ℕ) → r ≡ Some h → main ≡ some (numbered R h)
+  pub inside : (h : ℕ) → r ≡ Some h → numbered R h < length R
+  pub begins : (h : ℕ) → r ≡ Some h → (get_or R (numbered R h) no_head).word ≡ h
 
 -- ---- the table of meanings
 pub record Tables (W : List Word) (m : Module) (X : List ℕ) : Type 0 where
@@ -51,12 +52,12 @@ pub record Filled (values values' : List ℕ) : Type 0 where
   pub long : length values' ≡ length values
 
 -- ---- the promise
-pub record Foretells (text code values code' values' : List ℕ) (r words : ℕ) (m : Module) : Type 0 where
+pub record Foretells (text code values code' values' : List ℕ) (r : Option ℕ) (words : ℕ) (m : Module) : Type 0 where
   pub tables : Tables (words_in text) m (cells_of values')
   pub filled : Filled values values'
   pub heads : Heads (cells_of code') (heads_for m.routines) (signatures (words_in text) m 0 m.routines)
   pub marked : Marked code code' 2 words
   pub main : MainAt (heads_for m.routines) (main_of (words_in text) m) r
 
-pub record Reads (text code values code' values' : List ℕ) (r : ℕ) : Type 0 where
+pub record Reads (text code values code' values' : List ℕ) (r : Option ℕ) : Type 0 where
   pub is : (g : Begins text code values) → Foretells text code values code' values' r g.stands.words g.m

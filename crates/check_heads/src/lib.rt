@@ -1,15 +1,16 @@
 // The checker's third pass: what is known before its declaration. Names of module data are to come; each routine's first word has how many parameters it has, its
 // types are marked where they are not asked, and its name means it.
+// Both stores are lent one by one: check_statements says why.
 #![tactic(auto)]
 
 ghost use Rattle.paper.specs.Words.{word_limit};
-ghost use Rattle.std.specs.Prelude.{◌≡◌, ◌+◌, ◌*◌, ◌<◌, ◌≤◌, length};
+ghost use Rattle.std.specs.Prelude.{◌≡◌, ◌+◌, ◌*◌, ◌<◌, ◌≤◌, length, IfSome};
 ghost use Rattle.paper.specs.Sorts.{bytes, equal_texts};
 ghost use Rattle.store_cells.specs.Cells.{cells_of};
 ghost use Rattle.code.specs.Cells.{place_at};
 ghost use Rattle.check_names.specs.Promises.{store_bytes};
 ghost use Rattle.check_heads.specs.Stores.{length_at, spelled_at};
-ghost use Rattle.check_heads.specs.Parts.{Has, Next, Announces, DataStand, Data, refuses, mark_of, Marks, ParametersStand, Parameters, Names, RoutineStands, Begun, Takes, main_word, RoutinesStand, Routines};
+ghost use Rattle.check_heads.specs.Parts.{Has, Next, Announces, DataStand, Data, refuses, Marks, ParametersStand, Parameters, Names, RoutineStands, Begun, Takes, main_word, RoutinesStand, Routines};
 ghost use Rattle.check_heads.specs.Reads.{Begins, Reads};
 
 use check_names::MEANINGS;
@@ -23,7 +24,7 @@ pub const FIRST: usize = 2;
 
 // ---- words
 
-// The first word from `at` on that is of one of two sorts.
+// The first word from `at` on that is of one of two sorts. Words lie in a store of cells, which has no iterator of words: so here and below they go by index.
 fn next(code: &[u8], at: usize, a: u32, b: u32) -> usize
     requires { Has code.now at a b }
     ensures { Next code.now at a b result }
@@ -31,10 +32,7 @@ fn next(code: &[u8], at: usize, a: u32, b: u32) -> usize
     let mut i = at;
     loop {
         let s = sort(code, i);
-        if s == a {
-            return i;
-        }
-        if s == b {
+        if s == a || s == b {
             return i;
         }
         i += 1;
@@ -64,31 +62,21 @@ fn data_names(code: &[u8], values: &mut [u8], at: usize) -> usize
     ensures { Data code.now values.old at values.new result }
 {
     let mut i = at;
-    loop {
-        if !starts_data(sort(code, i)) {
-            return i;
-        }
+    while starts_data(sort(code, i)) {
         announce(code, values, i + 2);
         i = next(code, i + 2, SEMICOLON, SEMICOLON) + 1;
     }
+    i
 }
 
 // ---- parameters
 
-// 1 for a parameter that is refused, by what its name means and in which routine it was seen; else 0.
-fn mark(m: u32, seen: u32, h: u32, count: usize) -> u32
-    ensures { (result ≡ mark_of (refuses m seen h count)) × (result < 2) }
+// A parameter is refused, by what its name means and in which routine it was seen; 0 says in none, as the cell does.
+#[tactic(auto, unfolding(crate::specs::Parts::refuses))]
+fn is_refused(m: u32, seen: u32, h: u32, count: usize) -> bool
+    ensures { result ≡ refuses m seen h count }
 {
-    if check_names::is_protected(m) {
-        return 1;
-    }
-    if seen == h {
-        return 1;
-    }
-    if count == limits::ROUTINE_WORDS {
-        return 1;
-    }
-    0
+    check_names::is_protected(m) || seen == h || count == limits::ROUTINE_WORDS
 }
 
 // Marks the parameter whose type is at i, and notes that its name was seen in the routine that begins at h.
@@ -99,7 +87,7 @@ fn parameter(code: &mut [u8], values: &mut [u8], h: u32, i: usize, count: usize)
     let n = check_names::number(code, i + 1);
     let m = store_cells::get(values, MEANINGS + n);
     let seen = store_cells::get(values, n);
-    set_value(code, i, mark(m, seen, h, count));
+    set_value(code, i, u32::from(is_refused(m, seen, h, count)));
     store_cells::put(values, n, h);
 }
 
@@ -133,11 +121,7 @@ fn name_of(code: &mut [u8], h: usize, k: usize) -> usize
     if sort(code, h) != FUNC {
         return h + 1;
     }
-    if k == limits::ROUTINES {
-        set_value(code, h + 1, 1);
-        return h + 2;
-    }
-    set_value(code, h + 1, 0);
+    set_value(code, h + 1, u32::from(k == limits::ROUTINES));
     h + 2
 }
 
@@ -162,15 +146,15 @@ fn is_main(text: &[u8], code: &[u8], i: usize) -> bool
     same(&text[place..end], b"MAIN")
 }
 
-// The name of the routine that begins at h means it, if it means nothing yet. The first MAIN so far: the word that it begins with, 0 if there is none.
+// The name of the routine that begins at h means it, if it means nothing yet. The first MAIN so far: the word that it begins with.
 fn take_name(
     text: &[u8],
     code: &[u8],
     values: &mut [u8],
     h: usize,
     name: usize,
-    main: usize,
-) -> usize
+    main: Option<usize>,
+) -> Option<usize>
     requires { (name * 8 + 8 ≤ length code.now) × (place_at (cells_of code.now) name + length_at (cells_of code.now) name ≤ length text.now) × (store_bytes ≤ length values.old) × (h < word_limit) }
     ensures { Takes text.now code.now values.old h name main values.new result }
 {
@@ -182,54 +166,45 @@ fn take_name(
         MEANINGS + check_names::number(code, name),
         check_names::cell_with(kinds::ROUTINE, 0, 0, h as u32),
     );
-    if main != 0 {
-        return main;
-    }
-    if is_main(text, code, name) {
-        return h;
+    if main.is_none() && is_main(text, code, name) {
+        return Some(h);
     }
     main
 }
 
-// The word that main begins with; 0 if it is a FUNC, or has parameters.
-fn main_of(code: &[u8], h: usize) -> usize
-    requires { h * 8 + 8 ≤ length code.now }
-    ensures { result ≡ main_word (cells_of code.now) h }
+// The word that main begins with; none if it is a FUNC, or has parameters.
+#[tactic(auto, unfolding(crate::specs::Parts::main_word))]
+fn main_of(code: &[u8], main: Option<usize>) -> Option<usize>
+    requires { IfSome main (λ h. h * 8 + 8 ≤ length code.now) }
+    ensures { result ≡ main_word (cells_of code.now) main }
 {
-    if h == 0 {
-        return 0;
+    let h = main?;
+    if sort(code, h) == FUNC || store_reading::value(code, h) != 0 {
+        return None;
     }
-    if sort(code, h) == FUNC {
-        return 0;
-    }
-    if store_reading::value(code, h) != 0 {
-        return 0;
-    }
-    h
+    Some(h)
 }
 
 // The heads and names of the routines from `at` on. The cells of names that were seen are 0 again.
-fn routines(text: &[u8], code: &mut [u8], values: &mut [u8], at: usize) -> usize
+fn routines(text: &[u8], code: &mut [u8], values: &mut [u8], at: usize) -> Option<usize>
     requires { RoutinesStand text.now code.old values.old at }
     ensures { Routines text.now code.old values.old at code.new values.new result }
 {
     let mut i = at;
     let mut k = 0;
-    let mut main = 0;
-    loop {
-        if !starts_routine(sort(code, i)) {
-            store_cells::clear(values, 0, i);
-            return main_of(code, main);
-        }
+    let mut main = None;
+    while starts_routine(sort(code, i)) {
         let name = head(code, values, i, k);
         main = take_name(text, code, values, i, name, main);
         i = next(code, name, ENDPROC, ENDFUNC) + 1;
         k += 1;
     }
+    store_cells::clear(values, 0, i);
+    main_of(code, main)
 }
 
-// What is known before its declaration. The word that main begins with, 0 if there is no PROC main without parameters.
-pub fn read(text: &[u8], code: &mut [u8], values: &mut [u8]) -> usize
+// What is known before its declaration. The word that main begins with, none if there is no PROC main without parameters.
+pub fn read(text: &[u8], code: &mut [u8], values: &mut [u8]) -> Option<usize>
     requires { Begins text.now code.old values.old }
     ensures { Reads text.now code.old values.old code.new values.new result }
 {

@@ -122,9 +122,9 @@ module _ (code values₀ : List ℕ) (first count : ℕ) (values : List ℕ) (at
     pub next-adds : Fits w64 (at + 3)
     next-adds = record { fits = omega (arith, leave-near) }
 
-  pub parameters-leave : ParametersKept code values₀ first count → 0 < left → (values' : List ℕ) → Left code values (at + 1) values'
-      → ParametersLeft code values₀ first count values' (at + 3) (left - 1)
-  parameters-leave b₀ some values' l = record {
+  pub parameters-leave : ParametersKept code values₀ first count → 0 < left → (values' : List ℕ) → Left code values (at + 1) values' → (rest : ℕ) → rest ≡ left - 1
+      → ParametersLeft code values₀ first count values' (at + 3) rest
+  parameters-leave b₀ some values' l rest e = subst (λ (n : ℕ). ParametersLeft code values₀ first count values' (at + 3) n) (sym e) (record {
     long = left-long b₀.routine b₀.W b₀.s code values values' (at + 1) (k b₀ some) l (leave-table b₀ some) ∙ m.long;
     same = same-on m.same (left-same b₀.routine b₀.W b₀.s code values values' (at + 1) (k b₀ some) l (leave-table b₀ some));
     kept = λ b. record {
@@ -133,7 +133,7 @@ module _ (code values₀ : List ℕ) (first count : ℕ) (values : List ℕ) (at
       others = left-but b.routine b.W b.s code values values' (at + 1) (k b some) l (leave-table b some) (map (spelled b.W) (name_words (at + 3) (left - 1)) ++ b.texts)
           (subst (λ (t : List Text). MeansBut t b.routine b.W (outer_of b.W b.s) (cells_of values)) (first-texts b.W at left b.texts some) (m.kept b).others);
     };
-  }
+  })
 
   pub left-values : length values ≡ length values₀
   left-values = m.long

@@ -1,4 +1,5 @@
 // Leaving a routine: its names mean again what they meant before it.
+// Both stores are lent one by one: check_statements says why.
 #![tactic(auto)]
 
 ghost use Rattle.check_leaving.specs.Answers.{Leaving, Leaves};
@@ -8,19 +9,19 @@ use check_names::{Scope, restore};
 use layout::ops;
 use store_writing::sort;
 
+// The names stand three words apart in a store of cells, which has no iterator of words.
 fn leave_parameters(scope: Scope, code: &[u8], values: &mut [u8])
     requires { ParametersKept code.now values.old scope.first scope.names }
     ensures { LeavesParameters code.now values.old values.new scope.first scope.names }
 {
     let mut at = scope.first;
-    let mut left = scope.names;
-    while 0 < left {
+    for _ in 0..scope.names {
         restore(code, values, at + 1);
         at += 3;
-        left -= 1;
     }
 }
 
+// Each datum leads to the next by its link.
 fn leave_data(scope: Scope, code: &[u8], values: &mut [u8])
     requires { DataKept code.now values.old scope.head }
     ensures { LeavesData code.now values.old values.new scope.head }

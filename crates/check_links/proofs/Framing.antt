@@ -10,12 +10,12 @@ use Rattle.paper.specs.Terms.{of_routine}
 use Rattle.paper.specs.Trees.{Expr, Simple, Statement, Statements, Arms, Cases, simple, compact_if, full_if, for, while, test, empty, ◌then◌, no_arm, arm, no_case, case}
 use Rattle.paper.specs.Names.{Scopes, spelled, enter}
 use Rattle.paper.specs.Checks.{fors_in, fors_in_list, fors_in_arms, fors_in_cases}
-use Rattle.code.specs.Cells.{op_in, value_in, place_in, link_in, head_at, tail_at, op_at, value_at, place_at, link_at}
+use Rattle.code.specs.Cells.{op_in, value_in, place_in, link_in, op_at, value_at, place_at, link_at}
 use Rattle.code.specs.Spans.{bias}
 use Rattle.code.specs.Steps.{constant_at}
 use Rattle.code.proofs.Options.{none-some, same_some}
 use Rattle.check_links.specs.Raw.{Ground, SameWords, RawWord, RawDo, Ends, at_once, closed, LastOf, an-else, no-else, RawTerm, RawBound, RawStep, RawSimple}
-use Rattle.check_links.specs.Raw.{RawFirst, RawElseIf, RawNoMore, Begins, NoMore, RawElse, RawValue, RawValues, RawConstants, RawDefault, RawStatement, RawList, RawArms, RawCases}
+use Rattle.check_links.specs.Raw.{RawFirst, Begins, NoMore, RawValues, RawConstants, RawStatement, RawList, RawArms, RawCases}
 use Rattle.check_links.proofs.Moving.{Moves, term-moves, bound-moves, does_move}
 use Rattle.check_links.proofs.Orders.{term-order, bound-order, step-order, ends-order, last-order, statement-order, list-order, arms-order, cases_order}
 

@@ -1,28 +1,28 @@
 -- What a run reads of the choices of an IF and of a TEST, once words are resolved.
-use mathlib.Core.Path.{◌≡◌, refl, sym, ap, ap₂, subst, ◌∙◌}
-use mathlib.Core.Bool.{Bool, true, false}
+use mathlib.Core.Path.{◌≡◌, refl, sym, ap, ap₂, ◌∙◌}
+use mathlib.Core.Bool.{true, false}
 use mathlib.Core.List.{List, [], ◌∷◌, map}
 use mathlib.Core.Option.{Option, none, some}
-use Prim.Native.Nat.{ℕ, zero, suc, ◌+◌, ◌-◌, ◌*◌, ◌/◌, ◌%◌, ◌<◌, ◌≤◌}
+use Prim.Native.Nat.{ℕ, zero, suc, ◌+◌, ◌-◌, ◌<◌, ◌≤◌}
 use native.Mathlib.Omega.{arith}
-use lib.Dec.{eqb, ltb}
+use lib.Dec.{eqb}
 use lib.IntN.{ℤ, pos, ◌-ℤ◌}
-use borrow.Author.Tests.{eq-eqb, ne_eqb, lt-ltb}
+use borrow.Author.Tests.{eq-eqb, ne_eqb}
 use Rattle.paper.specs.Terms.{Term}
-use Rattle.paper.specs.Trees.{Expr, Statement, Statements, Arms, Cases, no_arm, arm, no_case, case}
+use Rattle.paper.specs.Trees.{Expr, Statements, Arms, Cases, no_arm, arm, no_case, case}
 use Rattle.paper.specs.Names.{Scopes}
 use Rattle.paper.specs.Types.{term_of, constant_value}
-use Rattle.paper.specs.Checks.{fors_in, fors_in_list}
+use Rattle.paper.specs.Checks.{fors_in_list}
 use Rattle.paper.specs.Steps.{begin, conditions, constants}
 use Rattle.code.specs.Cells.{op_at, value_at, place_at, link_at}
-use Rattle.code.specs.Spans.{guard, ◌then◌, bias, term_in}
-use Rattle.code.specs.Steps.{an_else_if, a_case, a_next_value, a_then, a_pass, an_otherwise, parts, constant_at, conditions_in, values_in, cases_in}
+use Rattle.code.specs.Spans.{◌then◌, bias, term_in}
+use Rattle.code.specs.Steps.{an_else_if, a_case, a_next_value, a_then, an_otherwise, parts, constant_at, conditions_in, values_in, cases_in}
 use Rattle.code.proofs.Options.{goes, guards}
 use Rattle.check_links.specs.Resolved.{goes_by_link, goes_by_value, goes_by_place, Led}
-use Rattle.check_links.specs.Raw.{Ground, RawWord, RawTerm, RawValue, RawValues, RawConstants, NoMore, RawNoMore, Begins, RawElseIf, RawList, RawArms, RawCases}
-use Rattle.check_links.proofs.Moving.{Moves, term-moves}
+use Rattle.check_links.specs.Raw.{Ground, RawTerm, RawValues, RawConstants, NoMore, Begins, RawArms, RawCases}
+use Rattle.check_links.proofs.Moving.{term-moves}
 use Rattle.check_links.proofs.Orders.{list-order, cases_order, arms-order, term-order}
-use Rattle.check_links.proofs.ResolvedWords.{Goes, op_same, value_same, place_same, link-same, value-goes, place-goes, link-goes, moves, list-goes, arms-go, cases-go}
+use Rattle.check_links.proofs.ResolvedWords.{Goes, op_same, value_same, link-same, value-goes, place-goes, link-goes, moves, list-goes, arms-go, cases-go}
 
 module _ (g : Ground) (n : ℕ) (C D : List ℕ) (words : ℕ) (led : (i : ℕ) → i < words → Led C D D words i) where
   -- an expression of a statement that ends at `to`

@@ -1,21 +1,21 @@
 -- Simple statements in two stores. What a statement's words say is kept where no word that leads on is asked for more than where it leads: this is what
 -- resolving changes, and what writing elsewhere leaves; and more words of data do no harm.
-use mathlib.Core.Path.{◌≡◌, refl, sym, ap, ap₂, subst, ◌∙◌}
+use mathlib.Core.Path.{◌≡◌, refl, sym, ap, subst, ◌∙◌}
 use mathlib.Core.Bool.{Bool, true, false, not}
-use mathlib.Core.List.{List, [], ◌∷◌, map}
-use mathlib.Core.Option.{Option, none, some}
-use Prim.Native.Nat.{ℕ, zero, suc, ◌+◌, ◌-◌, ◌*◌, ◌/◌, ◌%◌, ◌<◌, ◌≤◌}
+use mathlib.Core.List.{List, [], ◌∷◌}
+use mathlib.Core.Option.{none, some}
+use Prim.Native.Nat.{ℕ, zero, suc, ◌+◌, ◌<◌, ◌≤◌}
 use native.Mathlib.Omega.{arith}
 use lib.Dec.{eqb, ltb, leb}
 use lib.ListN.{length, get_or}
 use borrow.Author.Tests.{eq-eqb, ne_eqb, lt-ltb, le-ltb, ltb-true, leb-true, le-leb}
-use Rattle.laws.proofs.Tests.{test, by_less, by-same, false-true, apart}
+use Rattle.laws.proofs.Tests.{test, by_less, by-same, false-true}
 use Rattle.std.specs.Prelude.{if◌then◌else◌}
-use Rattle.paper.specs.Terms.{Term, of_module, of_routine}
+use Rattle.paper.specs.Terms.{Term, of_routine}
 use Rattle.paper.specs.Trees.{Expr, Target, Simple, first_simple, assign, assign_call, call, returns, raises, exits, retries, tries_next, writes, reads}
 use Rattle.paper.specs.Names.{Scopes}
-use Rattle.paper.specs.Steps.{Spot, scalar, element_of, spot_of}
-use Rattle.code.specs.Cells.{op_in, value_in, place_in, link_in, head_at, tail_at, op_at, value_at, place_at, link_at}
+use Rattle.paper.specs.Steps.{Spot, scalar, element_of}
+use Rattle.code.specs.Cells.{op_in, value_in, head_at, op_at, value_at, place_at, link_at}
 use Rattle.code.specs.Spans.{guard, ◌then◌, first_in, size_in, term_in}
 use Rattle.code.specs.Steps.{a_target, a_call_target, a_return_of, a_return, a_raise_of, a_raise, an_exit, a_retry, a_try_next, a_write, a_write_of, a_read, a_next_argument, a_then, a_close}
 use Rattle.code.specs.Steps.{parts, Head, no_head, numbered, agree, scalar_in, element_in, target_in, arguments_in, any_arguments, callee_in, characters_in, a_procedure_call, an_undo_end, a_do}
@@ -24,7 +24,7 @@ use Rattle.code.proofs.Spanning.{Agree, agree_same, span-grows}
 use Rattle.code.proofs.Composing.{framed}
 use Rattle.check_links.specs.Resolved.{goes_by_link, goes_by_value, goes_by_place, is_led}
 use Rattle.check_links.proofs.Ops.{link-step, step_other}
-use Rattle.check_links.specs.Raw.{Ground, Quiet, RawWord, RawTerm, RawBound, RawTarget, RawArguments, RawCallee, RawText, RawAssign, RawAssignCall, RawCall, RawValued, RawReturn, RawReturnOf, RawWrite, RawWriteOf, RawRead, RawDoes}
+use Rattle.check_links.specs.Raw.{Ground, Quiet, RawWord, RawTerm, RawBound, RawTarget, RawArguments, RawCallee, RawText, RawAssign, RawAssignCall, RawCall, RawValued, RawWrite, RawWriteOf, RawRead, RawDoes}
 
 -- ---- what may change
 -- From a up to b, words of D say what those of C say, but for where words lead, and those that led to `out` lead to `on` now.

@@ -1,16 +1,15 @@
 -- Which words lead on, and where to: the tests of the code.
-use mathlib.Core.Path.{◌≡◌, refl, sym, ap, ◌∙◌}
+use mathlib.Core.Path.{◌≡◌, refl, sym, ◌∙◌}
 use mathlib.Core.Bool.{Bool, true, false, not}
 use mathlib.Core.List.{List}
-use Prim.Native.Nat.{ℕ, ◌+◌, ◌*◌, ◌/◌, ◌<◌, ◌≤◌}
+use Prim.Native.Nat.{ℕ, ◌+◌, ◌<◌, ◌≤◌}
 use native.Mathlib.Omega.{arith}
-use lib.Dec.{eqb, ltb}
+use lib.Dec.{eqb}
 use borrow.Author.Tests.{ne_eqb, eq-eqb, lt-ltb, le-ltb, not-true, not-false}
 use Rattle.laws.proofs.Tests.{false-true}
-use Rattle.std.specs.Prelude.{if◌then◌else◌}
 use Rattle.store_cells.specs.Cells.{cells_of}
-use Rattle.code.specs.Cells.{op_at, link_at, link_in}
-use Rattle.code.specs.Steps.{a_target, an_else_if, a_case, a_then, a_procedure_call, an_end, a_function_end, an_undo_end, a_next_value, a_do, a_pass, an_otherwise, a_close}
+use Rattle.code.specs.Cells.{op_at, link_at}
+use Rattle.code.specs.Steps.{a_target, an_else_if, a_case, a_then, a_procedure_call, an_end, a_function_end, an_undo_end, a_next_value, a_do, an_otherwise}
 use Rattle.store_reading.specs.Reading.{half_end, Part}
 use Rattle.check_links.specs.Resolved.{step_by_link, goes_by_link, goes_by_value, goes_by_place, is_led, beyond, Beyond, LedValue, LedPlace, LedLink}
 use Rattle.check_links.specs.Raw.{Quiet}
@@ -26,46 +25,8 @@ module _ (op : ℕ) where
   unfolding goes_by_link
   link-step h g b e = rw (le-ltb op a_target h, goes_by_link) (rw (lt-ltb op an_else_if g) e)
 
-  pub step_call : op ≡ a_procedure_call → false ≡ step_by_link op
-  step_call h = rw (eq-eqb op a_procedure_call h)
-
-  pub step_end : (op ≡ a_procedure_call → ⊥) → op ≡ an_end → false ≡ step_by_link op
-  step_end h g = rw (ne_eqb op a_procedure_call h) (rw (eq-eqb op an_end g))
-
-  pub step-function-end : (op ≡ a_procedure_call → ⊥) → (op ≡ an_end → ⊥) → op ≡ a_function_end → false ≡ step_by_link op
-  step-function-end h g e = rw (ne_eqb op a_procedure_call h) (rw (ne_eqb op an_end g) (rw (eq-eqb op a_function_end e)))
-
   pub step_other : (op ≡ a_procedure_call → ⊥) → (op ≡ an_end → ⊥) → (op ≡ a_function_end → ⊥) → not (eqb op an_undo_end) ≡ step_by_link op
   step_other h g e = rw (ne_eqb op a_procedure_call h) (rw (ne_eqb op an_end g) (rw (ne_eqb op a_function_end e)))
-
-  pub link_here : (k : ℕ) → op ≡ k → true ≡ goes_by_link k → true ≡ goes_by_link op
-  link_here k e h = h ∙ ap goes_by_link (sym e)
-
-  pub link-none : an_else_if ≤ op → (op ≡ an_else_if → ⊥) → (op ≡ a_then → ⊥) → (op ≡ a_pass → ⊥) → (op ≡ an_otherwise → ⊥) → (op ≡ a_close → ⊥) → false ≡ goes_by_link op
-  unfolding goes_by_link
-  link-none h a b c d e =
-      let l : ltb op a_target ≡ false = le-ltb op a_target (omega arith) in
-      simp (l, le-ltb op an_else_if h, ne_eqb op an_else_if a, ne_eqb op a_then b, ne_eqb op a_pass c, ne_eqb op an_otherwise d, ne_eqb op a_close e, goes_by_link)
-
-  pub value-then : op ≡ a_then → true ≡ goes_by_value op
-  unfolding goes_by_value
-  value-then h = rw (h, goes_by_value)
-
-  pub value-else : (op ≡ a_then → ⊥) → eqb op a_do ≡ goes_by_value op
-  unfolding goes_by_value
-  value-else h = rw (ne_eqb op a_then h, goes_by_value)
-
-  pub place-case : op ≡ a_case → true ≡ goes_by_place op
-  unfolding goes_by_place
-  place-case h = rw (h, goes_by_place)
-
-  pub place-comma : op ≡ a_next_value → true ≡ goes_by_place op
-  unfolding goes_by_place
-  place-comma h = rw (h, goes_by_place)
-
-  pub place-else : (op ≡ a_case → ⊥) → (op ≡ a_next_value → ⊥) → eqb op an_otherwise ≡ goes_by_place op
-  unfolding goes_by_place
-  place-else h g = rw (ne_eqb op a_case h, goes_by_place) (rw (ne_eqb op a_next_value g))
 
   -- a word of an expression leads nowhere
   pub low_value : op < a_target → goes_by_value op ≡ false

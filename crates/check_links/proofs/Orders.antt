@@ -1,18 +1,18 @@
 -- Where statements begin and end.
-use mathlib.Core.Path.{◌≡◌, refl, sym, ap, subst, ◌∙◌}
+use mathlib.Core.Path.{◌≡◌}
 use mathlib.Core.List.{List}
 use mathlib.Core.Option.{Option, none, some}
 use Prim.Native.Nat.{ℕ, suc, ◌+◌, ◌<◌, ◌≤◌}
 use native.Mathlib.Omega.{arith}
 use Rattle.paper.specs.Terms.{of_routine}
-use Rattle.paper.specs.Trees.{Expr, Simple, first_simple, Statement, Statements, Arms, Cases, simple, compact_if, full_if, for, while, test, empty, ◌then◌, no_arm, arm, no_case, case}
+use Rattle.paper.specs.Trees.{Expr, Statement, Statements, Arms, Cases, simple, compact_if, full_if, for, while, test, empty, ◌then◌, no_arm, arm, no_case, case}
 use Rattle.paper.specs.Names.{Scopes, spelled, enter}
 use Rattle.paper.specs.Checks.{fors_in, fors_in_list, fors_in_arms, fors_in_cases}
 use Rattle.paper.specs.Steps.{first_word}
 use Rattle.code.specs.Cells.{op_at, value_at}
-use Rattle.code.specs.Steps.{an_else_if, a_pass}
+use Rattle.code.specs.Steps.{an_else_if}
 use Rattle.code.proofs.Spanning.{span-grows}
-use Rattle.check_links.specs.Raw.{Ground, RawTerm, RawBound, RawStep, LastOf, an-else, no-else, RawElse, Ends, at_once, closed, NoMore, RawNoMore, RawStatement, RawList, RawArms, RawCases}
+use Rattle.check_links.specs.Raw.{Ground, RawTerm, RawBound, RawStep, LastOf, an-else, no-else, Ends, at_once, closed, NoMore, RawStatement, RawList, RawArms, RawCases}
 use Rattle.check_links.proofs.SimpleSteps.{does_op}
 
 module _ (g : Ground) (n : ℕ) (C : List ℕ) where

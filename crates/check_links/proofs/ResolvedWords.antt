@@ -1,21 +1,21 @@
 -- Where words lead once they are resolved.
 use mathlib.Core.Path.{◌≡◌, refl, sym, ap, subst, ◌∙◌}
-use mathlib.Core.Bool.{Bool, true, false}
+use mathlib.Core.Bool.{true, false}
 use mathlib.Core.List.{List}
-use mathlib.Core.Option.{Option, none, some}
-use Prim.Native.Nat.{ℕ, suc, ◌+◌, ◌<◌, ◌≤◌}
+use mathlib.Core.Option.{some}
+use Prim.Native.Nat.{ℕ, ◌+◌, ◌<◌, ◌≤◌}
 use native.Mathlib.Omega.{arith}
-use Rattle.paper.specs.Trees.{Expr, Statement, Statements, Arms, Cases, empty, ◌then◌, no_arm, arm, no_case, case}
+use Rattle.paper.specs.Trees.{Statements, Arms, Cases, empty, ◌then◌, no_arm, arm, no_case, case}
 use Rattle.paper.specs.Names.{Scopes}
-use Rattle.paper.specs.Checks.{fors_in, fors_in_list}
-use Rattle.paper.specs.Steps.{begin, first_word}
+use Rattle.paper.specs.Checks.{fors_in_list}
+use Rattle.paper.specs.Steps.{begin}
 use Rattle.code.specs.Cells.{op_at, value_at, place_at, link_at}
-use Rattle.code.specs.Steps.{an_else_if, a_case, a_then, a_do, a_pass, an_otherwise}
+use Rattle.code.specs.Steps.{an_else_if, a_case, a_then, a_pass}
 use Rattle.check_links.specs.Resolved.{goes_by_link, goes_by_value, goes_by_place, beyond, Follows, Led}
-use Rattle.check_links.specs.Raw.{Ground, RawWord, RawTerm, RawDo, LastOf, an-else, no-else, RawElse, RawDefault, Ends, at_once, closed, NoMore, RawNoMore, Begins, RawElseIf, RawStatement, RawList, RawArms, RawCases}
+use Rattle.check_links.specs.Raw.{Ground, RawWord, LastOf, an-else, no-else, Ends, at_once, closed, NoMore, Begins, RawList, RawArms, RawCases}
 use Rattle.check_links.proofs.Ops.{beyond-step, beyond-case, beyond-close}
-use Rattle.check_links.proofs.Moving.{Moves, term-moves}
-use Rattle.check_links.proofs.Orders.{begins, list-begins, list-order, cases_order, arms-order, ends-order, last-order, term-order}
+use Rattle.check_links.proofs.Moving.{Moves}
+use Rattle.check_links.proofs.Orders.{begins, list-order, term-order}
 
 -- a list that ends at z goes on at the step `after`
 pub record Goes (C D : List ℕ) (words z after : ℕ) : Type 0 where

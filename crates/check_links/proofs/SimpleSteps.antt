@@ -1,27 +1,25 @@
 -- What a run reads at the word of a simple statement.
-use mathlib.Core.Path.{◌≡◌, refl, sym, ap, ap₂, subst, ◌∙◌}
+use mathlib.Core.Path.{◌≡◌, ap, ◌∙◌}
 use mathlib.Core.Bool.{Bool, true, false, not}
-use mathlib.Core.List.{List, [], ◌∷◌, map}
+use mathlib.Core.List.{List}
 use mathlib.Core.Option.{Option, none, some}
 use Prim.Native.Nat.{ℕ, ◌+◌, ◌<◌, ◌≤◌}
 use native.Mathlib.Omega.{arith}
-use lib.Dec.{eqb, ltb}
-use borrow.Author.Tests.{eq-eqb, ne_eqb, lt-ltb, le-ltb}
+use borrow.Author.Tests.{lt-ltb, le-ltb}
 use Rattle.laws.proofs.Tests.{test}
 use Rattle.std.specs.Prelude.{if◌then◌else◌}
 use Rattle.paper.specs.Terms.{Term}
-use Rattle.paper.specs.Trees.{Expr, Target, Simple, first_simple, assign, assign_call, call, returns, raises, exits, retries, tries_next, writes, reads}
-use Rattle.paper.specs.Names.{Scopes, routine_in, spelled, meaning}
-use Rattle.paper.specs.Types.{term_of}
+use Rattle.paper.specs.Trees.{Simple, first_simple, assign, assign_call, call, returns, raises, exits, retries, tries_next, writes, reads}
+use Rattle.paper.specs.Names.{Scopes}
 use Rattle.paper.specs.Checks.{WhichList, the_body, the_handler, the_undo}
-use Rattle.paper.specs.Steps.{Spot, Action, store, call_for, call_of, give_back, raise, hand_on, exit, retry, try_next, write, read, routine_of, characters, spot_of, optional_term, action_of}
+use Rattle.paper.specs.Steps.{Spot, Action, store, call_for, call_of, give_back, raise, hand_on, exit, retry, try_next, write, read, optional_term, action_of}
 use Rattle.code.specs.Cells.{op_at, value_at, place_at, link_at}
 use Rattle.code.specs.Spans.{guard, ◌then◌, term_in}
-use Rattle.code.specs.Steps.{a_target, a_call_target, a_procedure_call, Head, Stands, target_in, any_arguments, callee_in, characters_in, linked, store_in, call_for_in, call_of_in, with_term, write_in, write_of_in, read_in, compact_if_in, if_in, while_in}
+use Rattle.code.specs.Steps.{a_target, a_call_target, a_procedure_call, Head, target_in, any_arguments, callee_in, characters_in, linked, store_in, call_for_in, call_of_in, with_term, write_in, write_of_in, read_in, compact_if_in, if_in, while_in}
 use Rattle.code.specs.Steps.{for_in, for_test_in, test_in, action_in, step_in, a_compact_if, a_return_of, a_return, a_raise_of, a_raise, an_exit, a_retry, a_try_next, a_write, a_write_of, a_read, an_if, a_while, a_for, a_for_test, a_test}
 use Rattle.code.specs.Holds.{CalleeIn}
 use Rattle.code.proofs.Options.{goes}
-use Rattle.check_links.specs.Raw.{Ground, RawWord, RawTerm, RawBound, RawTarget, RawArguments, RawCallee, RawText, RawAssign, RawAssignCall, RawCall, RawValued, RawReturn, RawReturnOf, RawWrite, RawWriteOf, RawRead, RawDoes, end_of, ending_of}
+use Rattle.check_links.specs.Raw.{Ground, RawDoes, end_of, ending_of}
 
 -- The module has m words, the routine n, and it is a function or is none; `text` is the module's, `R` its routines, `C` the cells.
 module _ (m n : ℕ) (fn : Bool) (text : List ℕ) (R : List Head) (C : List ℕ) where

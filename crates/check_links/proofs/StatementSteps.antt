@@ -1,17 +1,17 @@
 -- What a run reads at the first words of statements that were walked and resolved, and at an ENDFOR.
 use mathlib.Core.Path.{◌≡◌, refl, sym, ap, ap₂, subst, ◌∙◌}
-use mathlib.Core.Bool.{Bool, true, false}
-use mathlib.Core.List.{List, [], ◌∷◌, ◌++◌, map}
+use mathlib.Core.Bool.{true, false}
+use mathlib.Core.List.{List, [], ◌∷◌}
 use mathlib.Core.Option.{Option, none, some}
-use Prim.Native.Nat.{ℕ, zero, suc, ◌+◌, ◌-◌, ◌*◌, ◌/◌, ◌%◌, ◌<◌, ◌≤◌}
+use Prim.Native.Nat.{ℕ, suc, ◌+◌, ◌*◌, ◌/◌, ◌%◌, ◌<◌, ◌≤◌}
 use native.Mathlib.Omega.{arith}
-use lib.Dec.{eqb, ltb}
+use lib.Dec.{ltb}
 use borrow.Author.Tests.{eq-eqb, ne_eqb, lt-ltb}
 use Rattle.paper.specs.Terms.{Term, of_routine}
-use Rattle.paper.specs.Trees.{Expr, Simple, first_simple, Statement, Statements, Arms, Cases, simple, compact_if, full_if, for, while, test, empty, no_arm, arm, no_case, case}
+use Rattle.paper.specs.Trees.{Expr, Simple, first_simple, Statements, Arms, Cases, compact_if, full_if, for, while, test}
 use Rattle.paper.specs.Names.{Scopes, spelled, enter}
 use Rattle.paper.specs.Types.{term_of}
-use Rattle.paper.specs.Checks.{fors_in, fors_in_list, fors_in_arms, fors_in_cases}
+use Rattle.paper.specs.Checks.{fors_in_arms, fors_in_cases}
 use Rattle.paper.specs.Steps.{Action, choose, select, test_while, enter_for, repeat_for, Step, step, begin, optional_term, action_of, simple_step, conditions, constants}
 use Rattle.code.specs.Cells.{op_at, value_at, place_at, link_at}
 use Rattle.code.specs.Spans.{guard, ◌then◌, term_in}
@@ -19,13 +19,13 @@ use Rattle.code.specs.Steps.{a_compact_if, an_if, a_while, a_for, a_for_test, a_
 use Rattle.code.specs.Closed.{Every, done, also}
 use Rattle.code.specs.Holds.{known, CalleeIn}
 use Rattle.code.proofs.Options.{goes, guards}
-use Rattle.check_links.specs.Resolved.{goes_by_link, goes_by_value, goes_by_place, beyond, Led}
-use Rattle.check_links.specs.Raw.{Ground, RawWord, RawTerm, RawBound, RawDo, RawStep, RawSimple, RawFirst, RawElse, RawDefault, LastOf, an-else, no-else, RawStatement, RawList, RawArms, RawCases}
+use Rattle.check_links.specs.Resolved.{goes_by_link, goes_by_value, goes_by_place, Led}
+use Rattle.check_links.specs.Raw.{Ground, RawWord, RawDo, RawStep, RawSimple, RawFirst, RawDefault, RawStatement, RawList}
 use Rattle.check_links.proofs.Ops.{beyond-close}
-use Rattle.check_links.proofs.Moving.{Moves, does_move, bound-moves, still-link}
+use Rattle.check_links.proofs.Moving.{does_move, bound-moves}
 use Rattle.check_links.proofs.SimpleSteps.{reads-step, reads-with, does-read, does_call, does_op, acts-compact-if, acts-if, acts-while, acts-for, acts-for-test, acts-test}
-use Rattle.check_links.proofs.Orders.{term-order, bound-order, step-order, ends-order, last-order, statement-order, list-order, arms-order, cases_order, begins, list-begins}
-use Rattle.check_links.proofs.ResolvedWords.{Goes, op_same, value_same, place_same, link-same, value-goes, place-goes, link-goes, word-goes, pass-goes, step-goes, moves, ends-go, list-goes, last_goes, arms-go, cases-go}
+use Rattle.check_links.proofs.Orders.{term-order, bound-order, step-order, ends-order, last-order, list-order, arms-order, cases_order, list-begins}
+use Rattle.check_links.proofs.ResolvedWords.{Goes, op_same, value_same, place_same, value-goes, place-goes, link-goes, word-goes, pass-goes, step-goes, moves, ends-go, list-goes, last_goes}
 use Rattle.check_links.proofs.IfAndTest.{term-reads, conditions-read, cases-read}
 use Rattle.layout.specs.Parts.{loop_part}
 

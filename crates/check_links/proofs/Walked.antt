@@ -1,5 +1,5 @@
 -- Every step of a list that was walked and resolved is read back.
-use mathlib.Core.Path.{◌≡◌, refl, sym, ap, subst, ◌∙◌}
+use mathlib.Core.Path.{◌≡◌, refl, sym, subst, ◌∙◌}
 use mathlib.Core.Bool.{Bool, true, false}
 use mathlib.Core.List.{List, [], ◌∷◌, ◌++◌}
 use mathlib.Core.Option.{Option, none, some}
@@ -15,7 +15,7 @@ use Rattle.code.specs.Cells.{head_at, tail_at, op_at, value_at}
 use Rattle.code.specs.Steps.{a_pass, an_else_if, parts, step_in}
 use Rattle.code.specs.Closed.{Every, done, also}
 use Rattle.code.specs.Holds.{known, CalleeIn}
-use Rattle.check_links.specs.Resolved.{is_led, beyond, Led, Resolved}
+use Rattle.check_links.specs.Resolved.{is_led, Led, Resolved}
 use Rattle.check_links.specs.Raw.{Ground, RawStatement, RawList, RawArms, RawCases, end_of, ending_of, RawRoutineList}
 use Rattle.check_links.proofs.Moving.{still-link, still-value, still-place}
 use Rattle.check_links.proofs.SimpleSteps.{acts-end}

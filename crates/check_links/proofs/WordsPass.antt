@@ -1,15 +1,13 @@
 -- One word led on, and the pass over all of them.
 use mathlib.Core.Path.{◌≡◌, refl, sym, ap, subst, ◌∙◌}
-use mathlib.Core.Bool.{Bool, true, false}
 use mathlib.Core.List.{List}
-use Prim.Native.Nat.{ℕ, ◌+◌, ◌-◌, ◌*◌, ◌/◌, ◌%◌, ◌<◌, ◌≤◌}
+use Prim.Native.Nat.{ℕ, ◌+◌, ◌-◌, ◌*◌, ◌<◌, ◌≤◌}
 use native.Mathlib.Omega.{arith}
-use lib.ListN.{length, drop, get_or}
-use borrow.Author.Tests.{ne_eqb}
+use lib.ListN.{length, drop}
 use Rattle.laws.proofs.Tests.{by_less, by-same, false-true}
 use Rattle.store_cells.specs.Cells.{cells_of}
 use Rattle.code.specs.Cells.{op_in, value_in, place_in, link_in, head_at, tail_at, op_at, value_at, place_at, link_at}
-use Rattle.code.specs.Steps.{a_target, an_else_if, a_case, a_then}
+use Rattle.code.specs.Steps.{a_target, an_else_if, a_case}
 use Rattle.store_writing.specs.Promises.{Rewritten}
 use Rattle.store_writing.proofs.Rewriting.{rewritten-length, rewritten-drop, rewritten-head, rewritten-tail, rewritten-heads, rewritten-tails}
 use Rattle.check_links.specs.Resolved.{goes_by_link, goes_by_value, goes_by_place, beyond, Follows, Led, Resolved, LedValue, LedPlace, LedLink, Turned}

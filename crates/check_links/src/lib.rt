@@ -7,22 +7,18 @@ ghost use Rattle.check_links.specs.Resolved.{step_by_link, goes_by_link, goes_by
 use layout::{ops, parts};
 use store_writing::sort;
 
+// Ops are parts of lent cells, so they are numbers.
 // Of steps: all but a procedure call, which goes on by the word that closes it, and a list's end.
 fn step_by_link(op: u32) -> bool
     ensures { result ≡ step_by_link op }
 {
-    if op == ops::PROCEDURE_CALL {
-        return false;
-    }
-    if op == ops::END {
-        return false;
-    }
-    if op == ops::FUNCTION_END {
-        return false;
-    }
-    op != ops::UNDO_END
+    !matches!(
+        op,
+        ops::PROCEDURE_CALL | ops::END | ops::FUNCTION_END | ops::UNDO_END
+    )
 }
 
+#[tactic(auto, unfolding(crate::specs::Resolved::goes_by_link))]
 fn goes_by_link(op: u32) -> bool
     ensures { result ≡ goes_by_link op }
 {
@@ -32,35 +28,24 @@ fn goes_by_link(op: u32) -> bool
     if op < ops::ELSE_IF {
         return step_by_link(op);
     }
-    match op {
-        ops::ELSE_IF => true,
-        ops::THEN => true,
-        ops::PASS => true,
-        ops::OTHERWISE => true,
-        ops::CLOSE => true,
-        _ => false,
-    }
+    matches!(
+        op,
+        ops::ELSE_IF | ops::THEN | ops::PASS | ops::OTHERWISE | ops::CLOSE
+    )
 }
 
+#[tactic(auto, unfolding(crate::specs::Resolved::goes_by_value))]
 fn goes_by_value(op: u32) -> bool
     ensures { result ≡ goes_by_value op }
 {
-    if op == ops::THEN {
-        return true;
-    }
-    op == ops::DO
+    matches!(op, ops::THEN | ops::DO)
 }
 
+#[tactic(auto, unfolding(crate::specs::Resolved::goes_by_place))]
 fn goes_by_place(op: u32) -> bool
     ensures { result ≡ goes_by_place op }
 {
-    if op == ops::CASE {
-        return true;
-    }
-    if op == ops::NEXT_VALUE {
-        return true;
-    }
-    op == ops::OTHERWISE
+    matches!(op, ops::CASE | ops::NEXT_VALUE | ops::OTHERWISE)
 }
 
 // Where a list goes on that ends at word z, or z itself where it is a step. What leads out of the words stays.
@@ -140,9 +125,7 @@ pub fn resolve(code: &mut [u8], words: usize)
     requires { (words ≤ 8192) × (words * 8 ≤ length code.old) }
     ensures { Resolved code.old code.new words }
 {
-    let mut i = words;
-    while 0 < i {
-        i -= 1;
+    for i in (0..words).rev() {
         resolve_word(code, words, i);
     }
 }

@@ -2,7 +2,7 @@
 use mathlib.Core.Path.{◌≡◌, refl, sym, ap, ap₂, ◌∙◌}
 use mathlib.Core.Bool.{Bool, true, false}
 use mathlib.Core.List.{List, map}
-use Prim.Native.Nat.{ℕ, zero, suc, ◌+◌, ◌-◌, ◌*◌, ◌/◌, ◌%◌, ◌<◌, ◌≤◌}
+use Prim.Native.Nat.{ℕ, zero, suc, ◌+◌, ◌-◌, ◌*◌, ◌/◌, ◌<◌, ◌≤◌}
 use native.Mathlib.Omega.{arith}
 use lib.Dec.{eqb}
 use lib.ListN.{length, take, drop}
@@ -20,6 +20,7 @@ use Rattle.check_load.specs.Layout.{head_value, is_first, opens, latest, known_a
 use Rattle.check_spelling.proofs.Letters.{same_names}
 use Rattle.check_spelling.proofs.Hashing.{hash-folded}
 use Rattle.check_load.proofs.Bounds.{text-short, reading-good}
+use Rattle.std.specs.Prelude.{None, Some}
 use Rattle.code.specs.Cells.{value_in, place_in, link_in}
 use Rattle.layout.specs.Parts.{value_part}
 use Rattle.check_names.specs.Promises.{number_limit}
@@ -140,7 +141,7 @@ module _ (text code name : List ℕ) (first : ℕ) (chain : Chain text code name
   first-inside = by-same first 0 (λ e. omega arith) (λ d. omega (arith, word-inside first seeks-start d, d))
 
   module _ (j : ℕ) (s : Seeks text name first j) where
-    pub seeks-none : j ≡ 0 → Finds text name first 0
+    pub seeks-none : j ≡ 0 → Finds text name first None
     seeks-none e = record {
       is = known-none (words_in text) first (map folded name) first-inside (λ i l f g. omega (arith, s.past i l f g));
       most = omega arith;
@@ -189,12 +190,14 @@ module _ (text code name : List ℕ) (first : ℕ) (chain : Chain text code name
         unfolding spelled
         spelled_is = e ∙ ap (λ (l : List ℕ). same_names l name) part-is
 
-        pub seeks-found : b ≡ true → Finds text name first j
-        seeks-found y = record {
-          is = known-first (words_in text) first (map folded name) j d s.most (word_first j s d) (same-texts _ _ (sym spelled_is ∙ y));
-          most = s.most;
-          small = chain.most;
-        }
+        pub seeks-found : b ≡ true → Finds text name first (Some (j - 1))
+        seeks-found y =
+            let link : j - 1 + 1 ≡ j = omega (arith, d) in
+            record {
+              is = link ∙ known-first (words_in text) first (map folded name) j d s.most (word_first j s d) (same-texts _ _ (sym spelled_is ∙ y));
+              most = omega (arith, link, s.most);
+              small = chain.most;
+            }
 
         pub seeks-on : b ≡ false → Seeks text name first (link_in tail)
         seeks-on n = record {

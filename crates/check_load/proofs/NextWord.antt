@@ -21,7 +21,8 @@ use Rattle.store_writing.specs.Promises.{tail_with, Rewritten}
 use Rattle.check_names.proofs.Spellings.{name-inside, number-most}
 use Rattle.store_writing.proofs.Rewriting.{rewritten-length, rewritten-drop}
 use Rattle.check_spelling.specs.Hash.{hash_of, buckets}
-use Rattle.check_load.specs.Layout.{head_value, head_of, is_first, latest, known_as, first_bucket, Written, words_in, Loading, Keeping, Goes, Comes, value_of, NameComes, Chain, Finds}
+use Rattle.std.specs.Prelude.{Option, None, Some}
+use Rattle.check_load.specs.Layout.{head_value, head_of, is_first, latest, known_as, first_bucket, Written, words_in, Loading, Keeping, Goes, Comes, value_of, NameComes, Chain, Finds, link_of}
 use Rattle.check_spelling.proofs.Hashing.{hash-folded}
 use Rattle.check_load.proofs.Bounds.{reading-good}
 use Rattle.check_load.proofs.Chains.{latest-most, latest-itself, known_some, known-zero, known-latest}
@@ -140,23 +141,24 @@ module _ (text code values : List ℕ) (i place len : ℕ) (at : Loading text i 
       room = at.code-room;
     }
 
-    module _ (found : ℕ) (f : Finds text (part text place len) first found) where
-      found-is : found ≡ known_as (words_in text) i (spelled (words_in text) i)
+    module _ (found : Option ℕ) (f : Finds text (part text place len) first found) where
+      found-is : link_of found ≡ known_as (words_in text) i (spelled (words_in text) i)
       found-is =
           f.is ∙ ap₂ (known_as (words_in text)) (first-is ∙ ap (λ (x : ℕ). latest (words_in text) x i) (eh ∙ hashes)) spells
           ∙ known-latest (words_in text) i (spelled (words_in text) i) (omega (arith, inside))
 
-      pub goes-found : (found ≡ 0 → ⊥) → (code' : List ℕ) → Rewritten code code' i (NAME + value_part * (found - 1 + number_limit * len)) (tail_with place 0) → Goes text i code values code' values
+      pub goes-found : (n : ℕ) → found ≡ Some n → (code' : List ℕ) → Rewritten code code' i (NAME + value_part * (n + number_limit * len)) (tail_with place 0) → Goes text i code values code' values
       unfolding is_first
-      goes-found d code' p =
-          let k = known_some (words_in text) i (spelled (words_in text) i) (λ z. d (found-is ∙ z)) in
-          let number : found - 1 ≡ number_of (words_in text) i = ap (λ (x : ℕ). x - 1) found-is ∙ k.0 in
+      goes-found n e code' p =
+          let link : n + 1 ≡ known_as (words_in text) i (spelled (words_in text) i) = sym (ap link_of e) ∙ found-is in
+          let k = known_some (words_in text) i (spelled (words_in text) i) (λ z. omega (arith, link)) in
+          let number : n ≡ number_of (words_in text) i = omega (arith, link, k.0) in
           let other : number_of (words_in text) i ≡ i → ⊥ = λ z. omega (arith, k.1) in
           let none : is_first (words_in text) i ≡ false = rw (eq-eqb (sort_in (words_in text) i) NAME come.name) (ne_eqb (number_of (words_in text) i) i other) in
           record {
             loading = record {
               written = written_on (words_in text) i code code' _ place 0 p room (omega (arith, come.inside, come.short)) at.written
-                  (name-head (found - 1) number) come.place_is (λ t. false-true (sym none ∙ t));
+                  (name-head n number) come.place_is (λ t. false-true (sym none ∙ t));
               tabled = tabled-same (words_in text) i none (cells_of values) come.room at.tabled;
               code-room = rw (rewritten-length p room) at.code-room;
               values-room = at.values-room;
@@ -164,9 +166,9 @@ module _ (text code values : List ℕ) (i place len : ℕ) (at : Loading text i 
             keeping = code-kept i code values code' _ _ p room;
           }
 
-      module _ (z : found ≡ 0) (m : ℕ) (em : m ≡ protected_cell (map folded (part text place len))) where
+      module _ (z : found ≡ None) (m : ℕ) (em : m ≡ protected_cell (map folded (part text place len))) where
         own-number : number_of (words_in text) i ≡ i
-        own-number = omega (arith, known-zero (words_in text) i (spelled (words_in text) i) (sym found-is ∙ z), number-most (words_in text) i come.name)
+        own-number = omega (arith, known-zero (words_in text) i (spelled (words_in text) i) (sym found-is ∙ ap link_of z), number-most (words_in text) i come.name)
 
         is-first : is_first (words_in text) i ≡ true
         unfolding is_first

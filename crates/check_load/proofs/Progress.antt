@@ -14,15 +14,14 @@ use Rattle.paper.specs.Words.{Refusal, Reading, reading, no_words}
 use Rattle.paper.specs.Names.{no_word, nth, sort_in}
 use Rattle.text_words.specs.declared.Word.{Word}
 use Rattle.text_words.specs.declared.Cursor.{Cursor}
-use Rattle.text_words.specs.declared.Step.{Step}
-use Rattle.text_words.specs.declared.Step.TheVariants as steps
-use Rattle.text_words.specs.Answers.{word_of, after, Started, Stepped, left_of}
+use Rattle.std.specs.Prelude.{None, Some, Ok, Err}
+use Rattle.text_words.specs.declared.Refusal as refusals
+use Rattle.text_words.specs.Answers.{as_refusal, told, Step, word_of, after, Started, Stepped, left_of}
 use Rattle.text_words.proofs.Readings.{Gives, step_gives, step-ends, step-refuses, start_left}
 use Rattle.check_names.specs.Meanings.{first_meaning}
 use Rattle.check_names.specs.Promises.{store_bytes}
-use Rattle.check_load.specs.declared.Loaded.TheVariants as loaded
 use Rattle.check_load.specs.Layout.{is_first, first_cell, latest, first_bucket, words_in, Loading, Keeping, Goes, Comes, past_buckets}
-use Rattle.check_load.specs.Loads.{Ready, answer_of, Loads}
+use Rattle.check_load.specs.Loads.{Ready, Loaded, answer_of, Filled, Loads}
 use Rattle.check_load.proofs.Bounds.{text-short, reading-good}
 use Rattle.check_spelling.specs.Hash.{buckets}
 
@@ -78,7 +77,7 @@ keeping-on n c₀ v₀ c v c' v' k l =
     }
 
 module _ (text code₀ values₀ code values : List ℕ) (c : Cursor) (at : Progress text code₀ values₀ code values c) (r : Step) (is : Stepped text c r) where
-  module _ (w : Word) (d : Cursor) (e : r ≡ steps.Word w d) where
+  module _ (w : Word) (d : Cursor) (e : r ≡ Ok (Some (w, d))) where
     gives : Gives text c w d
     gives = step_gives text c r is w d e
 
@@ -118,31 +117,38 @@ module _ (text code₀ values₀ code values : List ℕ) (c : Cursor) (at : Prog
       refused = at.refused ∙ ap (λ (x : Reading). x.refusal) gives.given.left;
     })
 
-  -- the chains are cleared, and nothing else
-  done : (o : Option Refusal) → left_of text c ≡ no_words o → (values' : List ℕ) → Cleared values values' first_bucket buckets → Loads text code₀ values₀ (answer_of c.words o) code values'
-  done o gone values' p =
-      let room : (first_bucket + buckets) * 4 ≤ length values = omega (arith, at.loading.values-room) in
+  -- no word comes
+  done : (o : Option Refusal) → left_of text c ≡ no_words o → (s : Loaded) → told s ≡ answer_of c.words o → Filled text code₀ values₀ s code values
+  done o gone s e =
       let all : length (words_in text) ≡ c.words = at.count ∙ rw gone (omega arith) in
-      let t = at.loading.tabled in
-      record {
-        answer = rw (all, at.refused, gone);
-        heads = λ i h. at.loading.written.heads i (omega (arith, all));
-        places = λ i h. at.loading.written.places i (omega (arith, all));
-        zeros = λ k h. by_less k first_bucket (λ l. clear-below p room k l ∙ t.before k l)
-            (λ l. by_less k past_buckets (λ m. let same : first_bucket + (k - first_bucket) ≡ k = omega arith in subst (λ (x : ℕ). get_or (cells_of values') x 0 ≡ 0) same (clear_in p room (k - first_bucket) (omega arith)))
-            (λ m. clear_above p room k m ∙ t.between k m h));
-        table = λ i h. clear_above p room (first_meaning + i) (omega arith)
-            ∙ by_less i c.words (λ l. t.table i l) (λ l. t.empty i l h ∙ sym (no_cell (words_in text) i (omega (arith, all))));
-        keeping = rw all (record {
-          rest = at.keeping.rest;
-          beyond = clear-drop p room store_bytes (omega arith) ∙ at.keeping.beyond;
-          code-size = at.keeping.code-size;
-          values-size = clear-length p room ∙ at.keeping.values-size;
-        });
-      }
+      record { answer = rw (all, at.refused, gone) e; loading = rw all at.loading; keeping = rw all at.keeping }
 
-  pub loads-end : r ≡ steps.End → (values' : List ℕ) → Cleared values values' first_bucket buckets → Loads text code₀ values₀ (loaded.Words c.words) code values'
-  loads-end e values' p = done none (step-ends text c r is e) values' p
+  pub filled-end : r ≡ Ok None → Filled text code₀ values₀ (Ok c.words) code values
+  filled-end e = done none (step-ends text c r is e) (Ok c.words) refl
 
-  pub loads-refused : (k q : ℕ) → r ≡ steps.Refused k q → (values' : List ℕ) → Cleared values values' first_bucket buckets → Loads text code₀ values₀ (loaded.Refused k q) code values'
-  loads-refused k q e values' p = done (some (record { number = k; offset = q })) (step-refuses text c r is k q e) values' p
+  pub filled-refused : (q : refusals.Refusal) → r ≡ Err q → Filled text code₀ values₀ (Err q) code values
+  filled-refused q e = done (some (as_refusal q)) (step-refuses text c r is q e) (Err q) refl
+
+-- the chains are cleared, and nothing else
+pub loads-cleared : (text code₀ values₀ : List ℕ) (r : Loaded) (code values values' : List ℕ) → Filled text code₀ values₀ r code values → Cleared values values' first_bucket buckets
+    → Loads text code₀ values₀ r code values'
+loads-cleared text code₀ values₀ r code values values' at p =
+    let n = length (words_in text) in
+    let room : (first_bucket + buckets) * 4 ≤ length values = omega (arith, at.loading.values-room) in
+    let t = at.loading.tabled in
+    record {
+      answer = at.answer;
+      heads = at.loading.written.heads;
+      places = at.loading.written.places;
+      zeros = λ k h. by_less k first_bucket (λ l. clear-below p room k l ∙ t.before k l)
+          (λ l. by_less k past_buckets (λ m. let same : first_bucket + (k - first_bucket) ≡ k = omega arith in subst (λ (x : ℕ). get_or (cells_of values') x 0 ≡ 0) same (clear_in p room (k - first_bucket) (omega arith)))
+          (λ m. clear_above p room k m ∙ t.between k m h));
+      table = λ i h. clear_above p room (first_meaning + i) (omega arith)
+          ∙ by_less i n (λ l. t.table i l) (λ l. t.empty i l h ∙ sym (no_cell (words_in text) i l));
+      keeping = record {
+        rest = at.keeping.rest;
+        beyond = clear-drop p room store_bytes (omega arith) ∙ at.keeping.beyond;
+        code-size = at.keeping.code-size;
+        values-size = clear-length p room ∙ at.keeping.values-size;
+      };
+    }

@@ -10,9 +10,9 @@ use Rattle.store_cells.specs.Cells.{cells_of, bytes_of}
 use Rattle.store_cells.proofs.Laws.{Bytes, length-words}
 use Rattle.code.specs.Cells.{head_at, place_at}
 use Rattle.check_names.specs.Meanings.{first_meaning}
-use Rattle.check_load.specs.declared.Loaded.{Loaded}
+use Rattle.text_words.proofs.Unique.{told-one}
 use Rattle.check_load.specs.Layout.{words_in}
-use Rattle.check_load.specs.Loads.{Ready, Loads}
+use Rattle.check_load.specs.Loads.{Ready, Loaded, Loads}
 use Rattle.check_spelling.proofs.Fronts.{front_bytes}
 use Rattle.check_names.specs.Promises.{number_limit}
 use Rattle.paper.specs.Answer.{store_words}
@@ -29,7 +29,7 @@ same_store n v w b d e h same rest =
 
 module _ (text code values : List ℕ) (r s : Loaded) (c d v w : List ℕ) (h : Loads text code values r c v) (g : Loads text code values s d w) where
   pub load-unique-answer : r ≡ s
-  load-unique-answer = h.answer ∙ sym g.answer
+  load-unique-answer = told-one r s (h.answer ∙ sym g.answer)
 
   pub load-unique-words : (i : ℕ) → i < length (words_in text) → (head_at (cells_of c) i ≡ head_at (cells_of d) i) × (place_at (cells_of c) i ≡ place_at (cells_of d) i)
   load-unique-words i l = (h.heads i l ∙ sym (g.heads i l), h.places i l ∙ sym (g.places i l))

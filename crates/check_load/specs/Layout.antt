@@ -1,5 +1,5 @@
 -- What the cells of both stores hold, when the first n words of a text are loaded.
-use Rattle.std.specs.Prelude.{◌≡◌, Bool, true, false, List, map, ℕ, zero, suc, ◌+◌, ◌*◌, ◌<◌, ◌≤◌, eqb, ltb, length, get_or, take, drop, if◌then◌else◌}
+use Rattle.std.specs.Prelude.{◌≡◌, Bool, true, false, List, map, ℕ, zero, suc, ◌+◌, ◌*◌, ◌<◌, ◌≤◌, eqb, ltb, length, get_or, take, drop, if◌then◌else◌, Option, None, Some}
 use Rattle.store_cells.specs.Cells.{cells_of}
 use Rattle.paper.specs.Sorts.{folded, NAME, STRING}
 use Rattle.paper.specs.Words.{Word, reading, text_limit, word_limit, name_limit, largest_number}
@@ -129,8 +129,13 @@ pub record Chain (text code : List ℕ) (name : List ℕ) (first : ℕ) : Type 0
   pub most : first ≤ number_limit
   pub room : store_bytes ≤ length code
 
+-- what is found in it as a chain knows it: an index and 1, or 0
+abbrev pub link_of : Option ℕ → ℕ
+link_of None = 0
+link_of (Some i) = i + 1
+
 -- the first name that is found in it, and how far its number can go
-pub record Finds (text name : List ℕ) (first r : ℕ) : Type 0 where
-  pub is : r ≡ known_as (words_in text) first (map folded name)
-  pub most : r ≤ first
+pub record Finds (text name : List ℕ) (first : ℕ) (r : Option ℕ) : Type 0 where
+  pub is : link_of r ≡ known_as (words_in text) first (map folded name)
+  pub most : link_of r ≤ first
   pub small : first ≤ number_limit

@@ -1,24 +1,25 @@
 // The checker's first pass: the words of a text go into the code store, two cells each, and names get their numbers.
+// Both stores are lent one by one: check_statements says why.
 #![tactic(auto)]
 
 ghost use Rattle.std.specs.Prelude.{◌≡◌, ◌+◌, ◌*◌, ◌<◌, ◌≤◌, length};
 ghost use Rattle.check_names.specs.Promises.{store_bytes};
 ghost use Rattle.check_load.specs.Layout.{Chain, Finds, Loading, NameComes, Comes, Goes, Valued, value_of};
-ghost use Rattle.check_load.specs.Loads.{Ready, Loads};
+ghost use Rattle.check_load.specs.Loads.{Ready, Filled, Loads};
 
 use check_names::MEANINGS;
 use check_spelling::{hash, protected, same};
 use layout::parts;
 use store_writing::rewrite;
-use text_words::{Cursor, Step, Word};
+use text_words::{Cursor, Refusal, Word};
 
 // Chains of names that have one hash begin in the cells of the value store from here on, as many as there are hashes.
 const FIRST_BUCKET: usize = 4096;
 
 const BUCKETS: usize = 2048;
 
-// The first name with a text in the chain that begins as given: its index and 1, or 0 where there is none.
-fn find<'a>(text: &'a [u8], code: &'a [u8], name: &'a [u8], first: usize) -> usize
+// By a walk along links: the first name with a text in the chain that begins as given.
+fn find<'a>(text: &'a [u8], code: &'a [u8], name: &'a [u8], first: usize) -> Option<usize>
     requires { Chain text.now code.now name.now first }
     ensures { Finds text.now name.now first result }
 {
@@ -30,11 +31,11 @@ fn find<'a>(text: &'a [u8], code: &'a [u8], name: &'a [u8], first: usize) -> usi
         let end = place
             + (store_cells::get(code, i * 2) / parts::VALUE) as usize / parts::SPELLED_AT;
         if same(&text[place..end], name) {
-            return j;
+            return Some(i);
         }
         j = (tail / parts::LINK) as usize;
     }
-    0
+    None
 }
 
 // A name: it gets the number of the first name of its spelling. A new name has its own, begins its chain, and has what it means if it is protected.
@@ -45,12 +46,11 @@ fn load_name(text: &[u8], code: &mut [u8], values: &mut [u8], i: usize, place: u
     let end = place + length;
     let bucket = FIRST_BUCKET + hash(&text[place..end]);
     let first = store_cells::get(values, bucket) as usize;
-    let found = find(text, code, &text[place..end], first);
-    if found != 0 {
+    if let Some(found) = find(text, code, &text[place..end], first) {
         rewrite(
             code,
             i,
-            text_sorts::NAME + parts::VALUE * ((found - 1 + parts::SPELLED_AT * length) as u32),
+            text_sorts::NAME + parts::VALUE * ((found + parts::SPELLED_AT * length) as u32),
             place,
             0,
         );
@@ -91,12 +91,23 @@ fn load_word(text: &[u8], code: &mut [u8], values: &mut [u8], i: usize, w: Word)
     rewrite(code, i, w.sort + parts::VALUE * value_of(w), w.place, 0);
 }
 
-#[derive(Drop)]
-pub enum Loaded {
-    // how many words there are
-    Words(usize),
-    // a refusal's number and its place
-    Refused(u32, usize),
+// How many words there are.
+pub type Loaded = Result<usize, Refusal>;
+
+// Loads a text's words one after another. The chains of names stay.
+fn load_words(text: &[u8], code: &mut [u8], values: &mut [u8]) -> Loaded
+    requires { Ready code.old values.old }
+    ensures { Filled text.now code.old values.old result code.new values.new }
+{
+    let mut c = Cursor::start();
+    loop {
+        let words = c.words as usize;
+        let Some((word, next)) = c.step(text)? else {
+            return Ok(words);
+        };
+        load_word(text, code, values, words, word);
+        c = next;
+    }
 }
 
 // Loads a text's words. The value store's cells are 0 before.
@@ -104,22 +115,7 @@ pub fn load(text: &[u8], code: &mut [u8], values: &mut [u8]) -> Loaded
     requires { Ready code.old values.old }
     ensures { Loads text.now code.old values.old result code.new values.new }
 {
-    let mut c = Cursor::start();
-    loop {
-        let words = c.words as usize;
-        match c.step(text) {
-            Step::Word(word, next) => {
-                load_word(text, code, values, words, word);
-                c = next;
-            }
-            Step::End => {
-                store_cells::clear(values, FIRST_BUCKET, BUCKETS);
-                return Loaded::Words(words);
-            }
-            Step::Refused(number, place) => {
-                store_cells::clear(values, FIRST_BUCKET, BUCKETS);
-                return Loaded::Refused(number, place);
-            }
-        }
-    }
+    let loaded = load_words(text, code, values);
+    store_cells::clear(values, FIRST_BUCKET, BUCKETS);
+    loaded
 }

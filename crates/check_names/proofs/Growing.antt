@@ -1,11 +1,10 @@
 -- What a walk does to the scope that goes in: it stays, with more words used.
 use mathlib.Core.Path.{◌≡◌, refl, sym, ap, subst, ◌∙◌}
 use Prim.Native.Nat.{ℕ, ◌+◌, ◌≤◌}
+use Rattle.std.specs.Prelude.{Ok, Err}
 use native.Mathlib.Omega.{arith}
 use Rattle.check_names.specs.declared.Scope.{Scope}
-use Rattle.check_names.specs.declared.Walked.{Walked}
-use Rattle.check_names.specs.declared.Walked.TheVariants.{Upto, Faulty}
-use Rattle.check_names.specs.Scopes.{loop_scope, with_used, EachHasWord, Grown, Stays, BackTo, OfRoutine}
+use Rattle.check_names.specs.Scopes.{loop_scope, with_used, EachHasWord, Walked, Grown, Stays, BackTo, OfRoutine}
 
 pub grown-self : (s : Scope) → Grown s s
 grown-self s = record { more = omega arith; rest = refl }
@@ -20,12 +19,12 @@ grown-by s r words e =
     record { more = omega (arith, u); rest = e ∙ ap (λ (n : ℕ). with_used n s) (sym u) }
 
 -- ---- answers
-pub grown-upto : (s : Scope) (w : Walked) → Stays s w → (next : ℕ) (r : Scope) → w ≡ Upto next r → Grown s r
+pub grown-upto : (s : Scope) (w : Walked) → Stays s w → (next : ℕ) (r : Scope) → w ≡ Ok (next, r) → Grown s r
 grown-upto s w h next r e = subst (Stays s) e h
 
 pub stays_on : (s t : Scope) (w : Walked) → Grown s t → Stays t w → Stays s w
-stays_on s t (Upto next r) g h = grown-on g h
-stays_on s t (Faulty number word) g h = h
+stays_on s t (Ok (next, r)) g h = grown-on g h
+stays_on s t (Err broken) g h = h
 
 -- each loop around has a word still
 pub has_word : {s r : Scope} → EachHasWord s → Grown s r → EachHasWord r
@@ -54,5 +53,5 @@ routine-on o g = record {
   leads = ap (λ (x : Scope). x.head) g.rest ∙ o.leads;
 }
 
-pub back-upto : (s : Scope) (w : Walked) → BackTo s w → (next : ℕ) (r : Scope) → w ≡ Upto next r → r ≡ s
+pub back-upto : (s : Scope) (w : Walked) → BackTo s w → (next : ℕ) (r : Scope) → w ≡ Ok (next, r) → r ≡ s
 back-upto s w h next r e = subst (BackTo s) e h

@@ -9,23 +9,22 @@ use Rattle.laws.proofs.Tests.{by_last, by_most}
 use Rattle.std.specs.Prelude.{if◌then◌else◌}
 use Rattle.paper.specs.Sorts.{NUM}
 use Rattle.paper.specs.Names.{type_of}
-use Rattle.layout.specs.Types.{type_in, num_type, bool_type}
+use Rattle.layout.specs.declared.types.ValueType.TheVariants.{Num, Bool}
 use Rattle.check_names.specs.Meanings.{an_errno, kind_in, bool_in, type_with}
 use Rattle.check_names.specs.Promises.{TypeOf, TypeNamed, Protects}
 
-bit-type : (b : ℕ) → b < 2 → type_in (num_type + b) ≡ some (type_with b)
-unfolding type_in
-bit-type b h = by_last b 1 h (λ e. rw e) (λ e. let z : b ≡ 0 = omega arith in rw z)
+pub tells-num : (cell : ℕ) → bool_in cell ≡ 0 → TypeOf cell Num
+tells-num cell e = record { is = rw e refl }
 
-pub type-told : (cell : ℕ) → TypeOf cell (num_type + cell / 2 % 2)
-type-told cell = record { is = bit-type (bool_in cell) (omega arith) }
+pub tells-bool : (cell : ℕ) → (bool_in cell ≡ 0 → ⊥) → TypeOf cell Bool
+tells-bool cell d = let e : bool_in cell ≡ 1 = omega arith in record { is = rw e refl }
 
-pub names-num : (s : ℕ) → s ≡ NUM → TypeNamed s num_type
-unfolding type_in type_of
+pub names-num : (s : ℕ) → s ≡ NUM → TypeNamed s Num
+unfolding type_of
 names-num s e = record { is = rw (e, type_of) refl }
 
-pub names-bool : (s : ℕ) → (s ≡ NUM → ⊥) → TypeNamed s bool_type
-unfolding type_in type_of
+pub names-bool : (s : ℕ) → (s ≡ NUM → ⊥) → TypeNamed s Bool
+unfolding type_of
 names-bool s d = record { is = rw (ne_eqb s NUM d, type_of) refl }
 
 -- a kind tells whether its name is protected

@@ -1,11 +1,11 @@
 -- What the functions promise: every cell, and every byte, after the call.
 use Rattle.std.specs.Prelude.{◌≡◌, Bool, List, ℕ, ◌+◌, ◌%◌, ◌<◌, get_or}
-use Rattle.std.proofs.Math.Option.{some}
 use Rattle.paper.specs.Names.{type_of}
 use Rattle.store_cells.specs.Cells.{cells_of, Put}
 use Rattle.code.specs.Cells.{head_at, value_at, place_at, link_at}
 use Rattle.store_writing.specs.Promises.{tail_with, Rewritten}
 use Rattle.layout.specs.Types.{type_in}
+use Rattle.layout.specs.declared.types.ValueType.{ValueType}
 use Rattle.check_names.specs.Meanings.{first_meaning, protects_cell, type_with, bool_in}
 
 -- a store's 16,384 cells
@@ -46,10 +46,10 @@ abbrev pub Protects : (m : ℕ) → Bool → Type 0
 Protects m r = r ≡ protects_cell m
 
 -- ---- readings of a cell
--- r is the number of the type that a cell says
-pub record TypeOf (cell r : ℕ) : Type 0 where
-  pub is : type_in r ≡ some (type_with (bool_in cell))
+-- r is the type that a cell says
+pub record TypeOf (cell : ℕ) (r : ValueType) : Type 0 where
+  pub is : type_in r ≡ type_with (bool_in cell)
 
--- r is the number of the type that a word of this sort names
-pub record TypeNamed (sort r : ℕ) : Type 0 where
-  pub is : type_in r ≡ some (type_of sort)
+-- r is the type that a word of this sort names
+pub record TypeNamed (sort : ℕ) (r : ValueType) : Type 0 where
+  pub is : type_in r ≡ type_of sort

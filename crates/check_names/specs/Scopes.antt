@@ -1,8 +1,7 @@
 -- What the methods of a scope promise: its new state, and what the lent cells say of its names.
-use Rattle.std.specs.Prelude.{◌≡◌, List, ℕ, ◌+◌, ◌<◌, ◌≤◌}
+use Rattle.std.specs.Prelude.{◌≡◌, List, ℕ, ◌+◌, ◌<◌, ◌≤◌, Result, Ok, Err}
 use Rattle.check_names.specs.declared.Scope.{Scope}
-use Rattle.check_names.specs.declared.Walked.{Walked}
-use Rattle.check_names.specs.declared.Walked.TheVariants.{Upto, Faulty}
+use Rattle.layout.specs.declared.rules.Breach.{Breach}
 use Rattle.check_names.specs.Meanings.{a_loop, cell_with}
 use Rattle.check_names.specs.Promises.{Declared, Left}
 
@@ -50,6 +49,10 @@ pub record Leaves (s outer : Scope) (code values values' : List ℕ) (r : Scope)
   pub scope-is : r ≡ with_used s.used outer
 
 -- ---- walks
+-- the word after what a walk walked over, and the scope with what is declared; or the rule broken, and its word
+abbrev pub Walked : Type 0
+Walked = Result (ℕ × Scope) Breach
+
 -- r is scope s with more words used.
 pub record Grown (s r : Scope) : Type 0 where
   pub more : s.used ≤ r.used
@@ -57,13 +60,13 @@ pub record Grown (s r : Scope) : Type 0 where
 
 -- A walk hands back the scope that went in, with more words used.
 abbrev pub Stays : Scope → Walked → Type 0
-Stays s (Upto next r) = Grown s r
-Stays s (Faulty number word) = Unit {0}
+Stays s (Ok (next, r)) = Grown s r
+Stays s (Err broken) = Unit {0}
 
 -- A walk over a whole routine hands back the scope that went in.
 abbrev pub BackTo : Scope → Walked → Type 0
-BackTo s (Upto next r) = r ≡ s
-BackTo s (Faulty number word) = Unit {0}
+BackTo s (Ok (next, r)) = r ≡ s
+BackTo s (Err broken) = Unit {0}
 
 -- s is the scope of a routine that was entered from the outer one: its parameters stand from the word `first` on, and the word `head` leads to its data.
 pub record OfRoutine (outer : Scope) (first head : ℕ) (s : Scope) : Type 0 where

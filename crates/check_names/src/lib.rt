@@ -1,4 +1,5 @@
 // Names: all names of one spelling have one number, and a table in the value store says what each number means.
+// Both stores are lent one by one: check_statements says why.
 #![tactic(auto)]
 
 ghost use Rattle.std.specs.Prelude.{◌≡◌, ◌+◌, ◌*◌, ◌<◌, ◌≤◌, length};
@@ -7,8 +8,9 @@ ghost use Rattle.check_names.specs.Promises.{Number, Meant, Declared, Links, Lef
 ghost use Rattle.check_names.specs.Scopes.{module_scope, routine_scope, with_parameter, Fits, EachHasWord, Declares, Enters, Leaves};
 ghost use Rattle.layout.specs.Kinds.{cell_with, kind_in, own_in};
 
-use layout::types::Type;
-use layout::{kinds, parts, types};
+use layout::rules::Breach;
+use layout::types::ValueType;
+use layout::{kinds, parts};
 
 // The table begins at this cell of the value store. The name with number n has cell MEANINGS + n.
 pub const MEANINGS: usize = 8192;
@@ -71,13 +73,13 @@ pub fn is_protected(m: u32) -> bool
 // ---- types and meanings
 
 // The type that a word of this sort names.
-pub fn type_named(s: u32) -> Type
+pub fn type_named(s: u32) -> ValueType
     ensures { TypeNamed s result }
 {
     if s == text_sorts::NUM {
-        return types::NUM;
+        return ValueType::Num;
     }
-    types::BOOL
+    ValueType::Bool
 }
 
 // A meaning: `bool` is 1 of a bool, `own` of a word of the routine.
@@ -94,10 +96,13 @@ pub fn kind_of(m: u32) -> u32
     m % parts::VALUE / parts::KIND
 }
 
-pub fn type_of(m: u32) -> Type
+pub fn type_of(m: u32) -> ValueType
     ensures { TypeOf m result }
 {
-    types::NUM + m / parts::TYPE % 2
+    if m / parts::TYPE % 2 == 0 {
+        return ValueType::Num;
+    }
+    ValueType::Bool
 }
 
 // 1 of a word of the routine
@@ -128,14 +133,8 @@ pub struct Scope {
     pub head: usize,
 }
 
-// What a walk that fills a scope answers.
-#[derive(Drop)]
-pub enum Walked {
-    // the word after what it walked over, and the scope with what is declared
-    Upto(usize, Scope),
-    // the rule broken, and its word
-    Faulty(u32, usize),
-}
+// What a walk that fills a scope answers: the word after what it walked over, and the scope with what is declared; or the rule broken, and its word.
+pub type Walked = Result<(usize, Scope), Breach>;
 
 impl Scope {
     // The module's, before anything is declared.

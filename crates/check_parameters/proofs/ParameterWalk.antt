@@ -36,8 +36,11 @@ use Rattle.check_expressions.proofs.Starts.{loaded-part}
 use Rattle.check_names.specs.declared.Scope.{Scope}
 use Rattle.check_names.specs.Scopes.{with_used, with_parameter}
 use Rattle.check_names.specs.Scopes as scopes
-use Rattle.check_names.specs.declared.Walked.{Walked}
-use Rattle.check_names.specs.declared.Walked.TheVariants.{Upto, Faulty}
+use Rattle.check_names.specs.Scopes.{Walked}
+use Rattle.std.specs.Prelude.{Ok, Err}
+use Rattle.layout.specs.Broken.{as_fault}
+use Rattle.layout.specs.declared.rules.Breach.{Breach}
+use Rattle.layout.specs.declared.rules.Rule.TheVariants.{TakenName, TooMany}
 use Rattle.check_sites.specs.Sites.{a_routine, filling, own_of, scopes_of, Owns, Placed, owned, Filled}
 use Rattle.check_sites.specs.Walks.{KeepsAll, name_words}
 use Rattle.check_parameters.specs.Answers.{Unopened, with_parameters, Opened, Opens, OtherWords, ParametersStand, parameters_after, ParametersFilled, SaysParameters, DeclaresParameters}
@@ -140,14 +143,14 @@ module _ {code values : List ℕ} {used i : ℕ} (b : ParameterBegins code value
     }
 
 module _ (code values : List ℕ) (used i : ℕ) (t : Bool) (taken : Taken code values 1 (i + 1) t) where
-  pub parameter-taken : t ≡ true → DeclaresParameter code values code values used i (Faulty taken_name (i + 1))
+  pub parameter-taken : t ≡ true → DeclaresParameter code values code values used i (Err (record { rule = TakenName; word = i + 1 }))
   unfolding SaysParameter
   parameter-taken h = record {
     is = λ b. subst (λ (k : ℕ). First (record { number = taken_name; at = k }) (name_faults b.W (F b) b.p.name (pos 0 ∷ []) b.D)) b.stands.named
         (name-taken b.W (F b) b.p.name (pos 0 ∷ []) b.D (sym (name-is b t taken) ∙ h));
   }
 
-  pub parameter-crosses : t ≡ false → routine_word_limit ≤ used → DeclaresParameter code values code values used i (Faulty too_many (i + 1))
+  pub parameter-crosses : t ≡ false → routine_word_limit ≤ used → DeclaresParameter code values code values used i (Err (record { rule = TooMany; word = i + 1 }))
   unfolding SaysParameter
   parameter-crosses h over = record {
     is = λ b. subst (λ (k : ℕ). First (record { number = too_many; at = k }) (name_faults b.W (F b) b.p.name (pos 0 ∷ []) b.D)) b.stands.named
@@ -156,10 +159,10 @@ module _ (code values : List ℕ) (used i : ℕ) (t : Bool) (taken : Taken code 
   }
 
   pub parameter-goes : t ≡ false → used < routine_word_limit → (code' mid values' : List ℕ) → Makes code values code' mid (i + 1) a_variable 1 used → Fills mid values' (first_window + used) 1 0
-      → (scope filled : Scope) → filled ≡ with_used (used + 1) scope → (counted : Scope) → counted ≡ with_parameter filled → DeclaresParameter code values code' values' used i (Upto (i + 2) counted)
+      → (scope filled : Scope) → filled ≡ with_used (used + 1) scope → (counted : Scope) → counted ≡ with_parameter filled → DeclaresParameter code values code' values' used i (Ok (i + 2, counted))
   unfolding SaysParameter
   parameter-goes h fits code' mid values' made fills scope filled e counted c = record {
-    is = λ b. subst (λ (s : Scope). SaysParameter b code' values' (Upto (i + 2) s)) (sym (c ∙ ap with_parameter e)) (goes b code' mid values' (sym (taken_is b t taken) ∙ h) fits made fills);
+    is = λ b. subst (λ (s : Scope). SaysParameter b code' values' (Ok (i + 2, s))) (sym (c ∙ ap with_parameter e)) (goes b code' mid values' (sym (taken_is b t taken) ∙ h) fits made fills);
   }
 
 -- ---- the words of their names
@@ -204,9 +207,9 @@ module _ (code values : List ℕ) (at s : ℕ) (s-is : s ≡ op_at (cells_of cod
   sort-at : (b : ParametersStand code values at) → sort_in b.W at ≡ s
   sort-at b = sym (s-is ∙ (b.loaded.words at (omega arith) (at_on b)).sort)
 
-  pub parameters-none : s ≡ 7 → (scope : Scope) → Unopened scope → DeclaresParameters code values code values at (Upto at scope)
+  pub parameters-none : s ≡ 7 → (scope : Scope) → Unopened scope → DeclaresParameters code values code values at (Ok (at, scope))
   unfolding SaysParameters KeepsAll name_words parameter_faults declare_parameters
-  parameters-none h scope u = subst (λ (n : ℕ). (DeclaresParameters code values code values at (Upto at (with_used n scope)))) (sym u.no_word) (record {
+  parameters-none h scope u = subst (λ (n : ℕ). (DeclaresParameters code values code values at (Ok (at, with_used n scope)))) (sym u.no_word) (record {
     is = λ b.
         let n = closed_none (sort_in b.W) (ParameterAt (sort_in b.W) (Parses (sort_in b.W))) b.stand (sort-at b ∙ h) in
         let G = filling b.W (a_routine b.m) in
@@ -376,14 +379,14 @@ module _ {code₀ values₀ : List ℕ} {at : ℕ} (b : ParametersStand code₀ 
           others = others;
         }
 
-says-goes : {code values : List ℕ} {used i : ℕ} (b : ParameterBegins code values used i) (code' values' : List ℕ) (r : Walked) (n : ℕ) (scope : Scope) → r ≡ Upto n scope → SaysParameter b code' values' r → ParameterGoes b code' values' n scope.used
+says-goes : {code values : List ℕ} {used i : ℕ} (b : ParameterBegins code values used i) (code' values' : List ℕ) (r : Walked) (n : ℕ) (scope : Scope) → r ≡ Ok (n, scope) → SaysParameter b code' values' r → ParameterGoes b code' values' n scope.used
 unfolding SaysParameter
 says-goes b code' values' r n scope q h = subst (SaysParameter b code' values') q h
 
-says-faulty : {code values : List ℕ} {used i : ℕ} (b : ParameterBegins code values used i) (code' values' : List ℕ) (r : Walked) (number word : ℕ) → r ≡ Faulty number word → SaysParameter b code' values' r
-    → First (record { number = number; at = word }) (name_faults b.W (filling b.W (a_routine b.m)) b.p.name (pos 0 ∷ []) b.D)
+says-faulty : {code values : List ℕ} {used i : ℕ} (b : ParameterBegins code values used i) (code' values' : List ℕ) (r : Walked) (broken : Breach) → r ≡ Err broken → SaysParameter b code' values' r
+    → First (as_fault broken) (name_faults b.W (filling b.W (a_routine b.m)) b.p.name (pos 0 ∷ []) b.D)
 unfolding SaysParameter
-says-faulty b code' values' r number word q h = subst (SaysParameter b code' values') q h
+says-faulty b code' values' r broken q h = subst (SaysParameter b code' values') q h
 
 -- ---- the loop
 module _ (code₀ values₀ : List ℕ) (at : ℕ) (code values : List ℕ) (i used : ℕ) (m : ParametersWalk code₀ values₀ at code values i used) where
@@ -397,13 +400,13 @@ module _ (code₀ values₀ : List ℕ) (at : ℕ) (code values : List ℕ) (i u
   parameters-long-values = m.long-values
 
   module _ (code' values' : List ℕ) (r : Walked) (d : DeclaresParameter code values code' values' used i r) where
-    pub parameters-faulty : (number word : ℕ) → r ≡ Faulty number word → DeclaresParameters code₀ values₀ code' values' at r
+    pub parameters-faulty : (broken : Breach) → r ≡ Err broken → DeclaresParameters code₀ values₀ code' values' at (Err broken)
     unfolding SaysParameters
-    parameters-faulty number word q = subst (DeclaresParameters code₀ values₀ code' values' at) (sym q) (record {
-      is = λ b. found b (m.passed b) (record { number = number; at = word }) (says-faulty (begins b (m.passed b)) code' values' r number word q (d.is (begins b (m.passed b))));
-    })
+    parameters-faulty broken q = record {
+      is = λ b. found b (m.passed b) (as_fault broken) (says-faulty (begins b (m.passed b)) code' values' r broken q (d.is (begins b (m.passed b))));
+    }
 
-    module _ (n : ℕ) (scope : Scope) (q : r ≡ Upto n scope) where
+    module _ (n : ℕ) (scope : Scope) (q : r ≡ Ok (n, scope)) where
       abbrev used' : ℕ
       used' = scope.used
 
@@ -440,7 +443,7 @@ module _ (code₀ values₀ : List ℕ) (at : ℕ) (code values : List ℕ) (i u
             let p = m.passed b in
             sym (s-is ∙ ap op_in ((went b).others.is (n * 2) (λ j l e. omega (arith, e, l, n-is b))) ∙ (p.loaded.words n (omega (arith, n-is b)) (n-on b)).sort)
 
-        pub parameters-done : (s ≡ comma → ⊥) → DeclaresParameters code₀ values₀ code' values' at (Upto n scope)
+        pub parameters-done : (s ≡ comma → ⊥) → DeclaresParameters code₀ values₀ code' values' at (Ok (n, scope))
         unfolding SaysParameters
         parameters-done last = record {
           is = λ b. all b (m.passed b) code' values' n used' (went b) long m.place (λ e. last (sym (sort-end b) ∙ e)) (others-on b);
@@ -479,9 +482,5 @@ opened-names entered scope o = ap (λ (s : Scope). s.names) o.is
 opens-on : (entered scope r : Scope) → Opened entered scope → Opened scope r → Opened entered r
 opens-on entered scope r e f = record { is = f.is ∙ ap (with_parameters r.used) e.is }
 
-pub opens-upto : (entered scope : Scope) (w : Walked) → Opened entered scope → Opens scope w → (next : ℕ) (r : Scope) → w ≡ Upto next r → Opened entered r
+pub opens-upto : (entered scope : Scope) (w : Walked) → Opened entered scope → Opens scope w → (next : ℕ) (r : Scope) → w ≡ Ok (next, r) → Opened entered r
 opens-upto entered scope w e h next r q = opens-on entered scope r e (subst (Opens scope) q h)
-
-pub opens-faulty : (entered scope : Scope) (w : Walked) → Opened entered scope → Opens scope w → Opens entered w
-opens-faulty entered scope (Upto next r) e h = opens-on entered scope r e h
-opens-faulty entered scope (Faulty number word) e h = h

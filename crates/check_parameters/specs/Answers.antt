@@ -1,5 +1,6 @@
 -- What the walk over a routine's parameters promises, and what it asks of the two stores.
-use Rattle.std.specs.Prelude.{◌≡◌, false, List, [], map, ℕ, ◌+◌, ◌*◌, ◌/◌, ◌<◌, length, get_or, replicate, pos}
+use Rattle.layout.specs.Broken.{as_fault}
+use Rattle.std.specs.Prelude.{◌≡◌, false, List, [], map, ℕ, ◌+◌, ◌*◌, ◌/◌, ◌<◌, length, get_or, replicate, pos, Ok, Err}
 use Rattle.paper.specs.Words.{Word}
 use Rattle.paper.specs.Trees.{Parameter, Module}
 use Rattle.paper.specs.Names.{Text, text_of, sort_in, spelled, is_among}
@@ -10,8 +11,7 @@ use Rattle.faults.specs.First.{First}
 use Rattle.faults.specs.Added.{parameter_faults}
 use Rattle.check_expressions.specs.Known.{Loaded}
 use Rattle.check_names.specs.declared.Scope.{Scope}
-use Rattle.check_names.specs.declared.Walked.{Walked}
-use Rattle.check_names.specs.declared.Walked.TheVariants.{Upto, Faulty}
+use Rattle.check_names.specs.Scopes.{Walked}
 use Rattle.check_sites.specs.Sites.{a_routine, filling, Filled}
 use Rattle.check_sites.specs.Walks.{KeepsAll, name_words}
 
@@ -31,8 +31,8 @@ pub record Opened (s r : Scope) : Type 0 where
 
 -- The walk hands back the scope that went in, with its parameters opened.
 abbrev pub Opens : Scope → Walked → Type 0
-Opens s (Upto next r) = Opened s r
-Opens s (Faulty number word) = Unit {0}
+Opens s (Ok (next, r)) = Opened s r
+Opens s (Err broken) = Unit {0}
 
 -- ---- the walk
 pub record ParametersStand (code values : List ℕ) (at : ℕ) : Type 0 where
@@ -64,9 +64,9 @@ pub record ParametersFilled {code values : List ℕ} {at : ℕ} (b : ParametersS
   pub others : OtherWords (cells_of code) (cells_of code') at used
 
 unfoldable pub SaysParameters : {code values : List ℕ} {at : ℕ} (b : ParametersStand code values at) (code' values' : List ℕ) → Walked → Type 0
-SaysParameters b code' values' (Upto next scope) = ParametersFilled b code' values' next scope.used
-SaysParameters b code' values' (Faulty number word) =
-    First (record { number = number; at = word }) (parameter_faults b.W (filling b.W (a_routine b.m)) b.ps no_data)
+SaysParameters b code' values' (Ok (next, scope)) = ParametersFilled b code' values' next scope.used
+SaysParameters b code' values' (Err broken) =
+    First (as_fault broken) (parameter_faults b.W (filling b.W (a_routine b.m)) b.ps no_data)
 
 pub record DeclaresParameters (code values code' values' : List ℕ) (at : ℕ) (r : Walked) : Type 0 where
   pub is : (b : ParametersStand code values at) → SaysParameters b code' values' r

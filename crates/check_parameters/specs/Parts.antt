@@ -1,5 +1,6 @@
 -- One parameter.
-use Rattle.std.specs.Prelude.{◌≡◌, List, [], ◌∷◌, ℕ, ◌+◌, length, pos}
+use Rattle.layout.specs.Broken.{as_fault}
+use Rattle.std.specs.Prelude.{◌≡◌, List, [], ◌∷◌, ℕ, ◌+◌, length, pos, Ok, Err}
 use Rattle.paper.specs.Words.{Word}
 use Rattle.paper.specs.Trees.{Parameter, Module}
 use Rattle.paper.specs.Names.{type_of, variable, sort_in}
@@ -9,8 +10,7 @@ use Rattle.grammar.specs.Form.{Parses, ParameterAt}
 use Rattle.faults.specs.First.{First}
 use Rattle.faults.specs.Added.{name_faults}
 use Rattle.check_expressions.specs.Known.{Loaded}
-use Rattle.check_names.specs.declared.Walked.{Walked}
-use Rattle.check_names.specs.declared.Walked.TheVariants.{Upto, Faulty}
+use Rattle.check_names.specs.Scopes.{Walked}
 use Rattle.check_sites.specs.Sites.{a_routine, filling, Filled}
 use Rattle.check_sites.specs.Walks.{KeepsName}
 use Rattle.check_parameters.specs.Answers.{OtherWords}
@@ -39,8 +39,8 @@ pub record ParameterGoes {code values : List ℕ} {used i : ℕ} (b : ParameterB
   pub others : OtherWords (cells_of code) (cells_of code') i 1
 
 unfoldable pub SaysParameter : {code values : List ℕ} {used i : ℕ} (b : ParameterBegins code values used i) (code' values' : List ℕ) → Walked → Type 0
-SaysParameter b code' values' (Upto next scope) = ParameterGoes b code' values' next scope.used
-SaysParameter b code' values' (Faulty number word) = First (record { number = number; at = word }) (name_faults b.W (filling b.W (a_routine b.m)) b.p.name (pos 0 ∷ []) b.D)
+SaysParameter b code' values' (Ok (next, scope)) = ParameterGoes b code' values' next scope.used
+SaysParameter b code' values' (Err broken) = First (as_fault broken) (name_faults b.W (filling b.W (a_routine b.m)) b.p.name (pos 0 ∷ []) b.D)
 
 pub record DeclaresParameter (code values code' values' : List ℕ) (used i : ℕ) (r : Walked) : Type 0 where
   pub is : (b : ParameterBegins code values used i) → SaysParameter b code' values' r

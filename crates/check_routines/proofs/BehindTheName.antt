@@ -6,9 +6,6 @@ use mathlib.Core.List.{List}
 use Prim.Native.Nat.{ℕ, ◌+◌, ◌-◌, ◌*◌, ◌<◌, ◌≤◌}
 use native.Mathlib.Omega.{arith}
 use lib.ListN.{length}
-use Rattle.paper.specs.Checks.{routine_faults}
-use Rattle.check_names.specs.Promises.{store_bytes}
-use Rattle.faults.specs.First.{First}
 use Rattle.check_parameters.specs.Answers.{ParametersStand, DeclaresParameters, Unopened, Opened, Opens}
 use Rattle.check_parameters.proofs.ParameterWalk.{opened-names}
 use Rattle.check_declarations.specs.Answers.{RoutineStands, DeclaresRoutine}
@@ -16,17 +13,18 @@ use Rattle.check_leaving.specs.Answers.{Leaving, Leaves}
 use Rattle.store_cells.specs.Cells.{cells_of}
 use Rattle.check_sites.specs.Walks.{outer_of}
 use Rattle.check_names.specs.Meanings.{Means}
-use Rattle.check_names.specs.Scopes.{routine_scope, EachHasWord, Grown, BackTo, OfRoutine}
+use Rattle.check_names.specs.Scopes.{routine_scope, EachHasWord, Grown, OfRoutine, Walked}
 use Rattle.check_names.proofs.Growing.{grown-on, routine-on}
 use Rattle.check_names.specs.declared.Scope.{Scope}
-use Rattle.check_names.specs.declared.Walked.{Walked}
-use Rattle.check_names.specs.declared.Walked.TheVariants.{Upto, Faulty}
+use Rattle.layout.specs.declared.types.ValueType.{ValueType}
 use Rattle.check_routines.specs.Parts.{Finishes, ListsStand, SaysLists, Lists, ScopeStands, SaysScope, Scoped, ParametersDeclared, ParametersPassed, DataStand, DataPassed}
 use Rattle.check_routines.proofs.ScopeEntered.{order, parameters-stand, parameters-faulty, entered, data-stand, data-faulty, declared, lists-stand, inside}
 use Rattle.check_routines.proofs.ScopeLeft.{scope-lists, finish-few, finish-most, leaving, goes}
+use Rattle.std.specs.Prelude.{Option, Ok, Err}
+use Rattle.layout.specs.declared.rules.Breach.{Breach}
 
 -- ---- from the name on
-module _ (text code values : List ℕ) (result h name : ℕ) where
+module _ (text code values : List ℕ) (result : Option ValueType) (h name : ℕ) where
   abbrev G : Type 0
   G = ScopeStands text code values result h name
 
@@ -41,23 +39,17 @@ module _ (text code values : List ℕ) (result h name : ℕ) where
     y : DeclaresParameters code values code₁ values₁ (name + 2) p
     y = subst (λ (k : ℕ). DeclaresParameters code values code₁ values₁ k p) first x
 
-    pub parameters-so : (number word : ℕ) → p ≡ Faulty number word → Scoped text code values code₁ values₁ result h name p
+    pub parameters-so : (broken : Breach) → p ≡ Err broken → Scoped text code values code₁ values₁ result h name (Err broken)
     unfolding SaysScope
-    parameters-so number word q = subst (Scoped text code values code₁ values₁ result h name) (sym q) (record {
-      is = λ g. parameters-faulty text code values result h name g code₁ values₁ number word (subst (DeclaresParameters code values code₁ values₁ (name + 2)) q y);
-    })
+    parameters-so broken q = record { is = λ g. parameters-faulty text code values result h name g code₁ values₁ broken (subst (DeclaresParameters code values code₁ values₁ (name + 2)) q y) }
 
-    module _ (close : ℕ) (own : Scope) (q : p ≡ Upto close own) (long : length code₁ ≡ length code) (outer : Scope) (e : OfRoutine outer (name + 2) h own) (n : own.names ≡ own.used) where
+    module _ (close : ℕ) (own : Scope) (q : p ≡ Ok (close, own)) (long : length code₁ ≡ length code) (outer : Scope) (e : OfRoutine outer (name + 2) h own) (n : own.names ≡ own.used) where
       pub parameters-declared : G → ParametersDeclared text code₁ values₁ result outer own h name close
       parameters-declared g = record { code₀ = code; values₀ = values; stands = g; entered = e; names-are = n; declares = subst (DeclaresParameters code values code₁ values₁ (name + 2)) q y; long = long }
 
       pub scope-passed : (code' values' : List ℕ) (r : Walked) → ParametersPassed text code₁ values₁ code' values' result outer own h name close r → Scoped text code values code' values' result h name r
       unfolding parameters-declared
       scope-passed code' values' r x = record { is = λ g. x.is (parameters-declared g) }
-
--- a walk that breaks off hands no scope back
-pub back-wrong : (s : Scope) (w : Walked) (number word : ℕ) → w ≡ Faulty number word → BackTo s w
-back-wrong s w number word e = subst (BackTo s) (sym e) tt
 
 -- ---- the scope that is entered
 module _ (outer : Scope) (first head : ℕ) (s : Scope) (e : s ≡ routine_scope outer first head) where
@@ -67,7 +59,7 @@ module _ (outer : Scope) (first head : ℕ) (s : Scope) (e : s ≡ routine_scope
   pub entered-none : Unopened s
   entered-none = record { no_word = ap (λ (x : Scope). x.used) e; no_name = ap (λ (x : Scope). x.names) e }
 
-  module _ (w : Walked) (o : Opens s w) (next : ℕ) (own : Scope) (q : w ≡ Upto next own) where
+  module _ (w : Walked) (o : Opens s w) (next : ℕ) (own : Scope) (q : w ≡ Ok (next, own)) where
     opened : Opened s own
     opened = subst (Opens s) q o
 
@@ -84,7 +76,7 @@ module _ (outer : Scope) (first head : ℕ) (s : Scope) (e : s ≡ routine_scope
     opened-count = opened-names s own opened
 
 -- ---- behind the parameters
-module _ (text code values : List ℕ) (result : ℕ) (outer own : Scope) (h name close : ℕ) where
+module _ (text code values : List ℕ) (result : Option ValueType) (outer own : Scope) (h name close : ℕ) where
   abbrev O : Type 0
   O = ParametersDeclared text code values result outer own h name close
 
@@ -110,13 +102,11 @@ module _ (text code values : List ℕ) (result : ℕ) (outer own : Scope) (h nam
     abbrev Q : Walked → Type 0
     Q v = DeclaresRoutine code values code₂ values₂ (name + 1) own.head own.used (close + 1) v
 
-    pub data-so : (number word : ℕ) → w ≡ Faulty number word → ParametersPassed text code values code₂ values₂ result outer own h name close w
+    pub data-so : (broken : Breach) → w ≡ Err broken → ParametersPassed text code values code₂ values₂ result outer own h name close (Err broken)
     unfolding SaysScope
-    data-so number word q = subst (ParametersPassed text code values code₂ values₂ result outer own h name close) (sym q) (record {
-      is = λ s. data-faulty text s.code₀ s.values₀ result h name s.stands code values close own s.declares s.long code₂ values₂ number word (own-declares s (subst Q q y));
-    })
+    data-so broken q = record { is = λ s. data-faulty text s.code₀ s.values₀ result h name s.stands code values close own s.declares s.long code₂ values₂ broken (own-declares s (subst Q q y)) }
 
-    module _ (at : ℕ) (taken : Scope) (q : w ≡ Upto at taken) (long : length code₂ ≡ length code) (more : Grown own taken) where
+    module _ (at : ℕ) (taken : Scope) (q : w ≡ Ok (at, taken)) (long : length code₂ ≡ length code) (more : Grown own taken) where
       pub data-declared : O → DataStand text code₂ values₂ result outer taken h name at
       data-declared s = record { close = close; code₁ = code; values₁ = values; opened = own; own = s; grown = more; declares = own-declares s (subst Q q y); long = long }
 
@@ -125,7 +115,7 @@ module _ (text code values : List ℕ) (result : ℕ) (outer own : Scope) (h nam
       own-passed code' values' r x = record { is = λ s. x.is (data-declared s) }
 
 -- ---- behind the data
-module _ (text code values : List ℕ) (result : ℕ) (outer taken : Scope) (h name at : ℕ) where
+module _ (text code values : List ℕ) (result : Option ValueType) (outer taken : Scope) (h name at : ℕ) where
   abbrev D : Type 0
   D = DataStand text code values result outer taken h name at
 
@@ -162,11 +152,11 @@ module _ (text code values : List ℕ) (result : ℕ) (outer taken : Scope) (h n
     abbrev L : Walked → Type 0
     L u = Lists text code values code₃ values₃ result taken.used h at u
 
-    pub lists-so : (number word : ℕ) → v ≡ Faulty number word → DataPassed text code values code₃ values₃ result outer taken h name at v
+    pub lists-so : (broken : Breach) → v ≡ Err broken → DataPassed text code values code₃ values₃ result outer taken h name at (Err broken)
     unfolding SaysScope SaysLists scope-lists lists-stand inside data-lists
-    lists-so number word q = subst (DataPassed text code values code₃ values₃ result outer taken h name at) (sym q) (record { is = λ s. (subst L q y).is (data-lists s) })
+    lists-so broken q = record { is = λ s. (subst L q y).is (data-lists s) }
 
-    module _ (next : ℕ) (all : Scope) (q : v ≡ Upto next all) where
+    module _ (next : ℕ) (all : Scope) (q : v ≡ Ok (next, all)) where
       pub used-few : D → all.used - taken.used < link_part
       used-few s =
           finish-few text s.own.code₀ s.own.values₀ result h name s.own.stands s.code₁ s.values₁ s.close s.opened s.own.declares s.own.long
@@ -209,7 +199,7 @@ module _ (text code values : List ℕ) (result : ℕ) (outer taken : Scope) (h n
               let o = opens s in
               subst (Restores (name + 2) s.opened.used) o.leads (subst (λ (k : ℕ). Restores (name + 2) k all.head) o.names (subst (λ (k : ℕ). Restores k all.names all.head) o.begins x))
 
-          pub scope-done : (left : Scope) → Leaves all outer code₄ values₃ values₄ left → length values₄ ≡ length values₃ → DataPassed text code values code₄ values₄ result outer taken h name at (Upto next left)
+          pub scope-done : (left : Scope) → Leaves all outer code₄ values₃ values₄ left → length values₄ ≡ length values₃ → DataPassed text code values code₄ values₄ result outer taken h name at (Ok (next, left))
           unfolding SaysScope
           scope-done left x same = record {
             is = λ s.

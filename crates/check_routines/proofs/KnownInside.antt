@@ -1,26 +1,22 @@
 -- What statements of a routine know.
-use mathlib.Core.Path.{◌≡◌, refl, sym, ap, subst, ◌∙◌}
-use mathlib.Core.Bool.{Bool, true, false, ◌||◌}
-use mathlib.Core.List.{List, [], map}
+use mathlib.Core.Path.{◌≡◌, refl, sym, ap, ◌∙◌}
+use mathlib.Core.Bool.{false}
+use mathlib.Core.List.{List, map}
 use mathlib.Core.Option.{Option, none, some}
-use Prim.Native.Nat.{ℕ, ◌+◌, ◌<◌, ◌≤◌}
+use Prim.Native.Nat.{ℕ, ◌<◌, ◌≤◌}
 use native.Mathlib.Omega.{arith}
-use lib.ListN.{length, get_or}
-use Rattle.laws.proofs.Tests.{test, false-true, apart}
+use lib.ListN.{length}
+use Rattle.laws.proofs.Tests.{test, apart}
 use Rattle.paper.specs.Words.{Word}
 use Rattle.paper.specs.Trees.{Routine, Module}
-use Rattle.paper.specs.Names.{Meaning, the_routine, routine_in, unknown, Text, Names, text_of, Scopes, sort_in, spelled, look_in, protected, is_among, meaning}
-use Rattle.paper.specs.Declarations.{routine_limit, crosses, result_asked, routine_filling, routine_data, routine_scopes, module_data, module_scopes, signatures}
-use Rattle.paper.specs.Checks.{WhichList, the_body, the_handler, is_some, in_error, setting_in, fors_in_list}
-use Rattle.paper.specs.Steps.{fors_of}
+use Rattle.paper.specs.Names.{Meaning, the_routine, routine_in, unknown, Text, text_of, Scopes, spelled, look_in, protected, is_among, meaning}
+use Rattle.paper.specs.Declarations.{result_asked, routine_filling, routine_data, routine_scopes, module_data, module_scopes, signatures}
+use Rattle.paper.specs.Checks.{WhichList, is_some, setting_in}
 use Rattle.store_cells.specs.Cells.{cells_of}
 use Rattle.code.specs.Steps.{numbered}
-use Rattle.check_names.specs.Numbers.{IsName}
 use Rattle.check_names.specs.Meanings.{is_protected}
-use Rattle.check_names.specs.Promises.{store_bytes}
 use Rattle.store_evaluation.specs.Answers.{call_slots}
 use Rattle.faults.specs.Parts.{memory_of}
-use Rattle.check_expressions.specs.Known.{Loaded, Known}
 use Rattle.check_heads.specs.Trees.{heads_for}
 use Rattle.check_heads.proofs.DataToCome.{not_found}
 use Rattle.check_heads.proofs.NamesOfRoutines.{look-found}
@@ -30,10 +26,9 @@ use Rattle.check_around.specs.Around.{Around, Unread, Apart, Calls, Tells}
 use Rattle.check_around.specs.Around as simple
 use Rattle.check_compounds.specs.Here.{Here}
 use Rattle.check_program.specs.Routines.{words_in_all, ground_for}
-use Rattle.check_program.proofs.WalkStays.{own-ground}
 use Rattle.check_routines.specs.Answers.{ground_of}
-use Rattle.check_routines.specs.Parts.{Inside, Onward, ground_in, data_slots}
-use Rattle.check_routines.proofs.RoutineName.{protected-none, unprotected, among-routines}
+use Rattle.check_routines.specs.Parts.{Inside, Onward, ground_in}
+use Rattle.check_routines.proofs.RoutineName.{protected-none, among-routines}
 use Rattle.check_routines.proofs.ValueStore.{within-placed, fine-placed}
 
 routine-some : {A : Type 0} {i : ℕ} → ◌≡◌ {A = Option ℕ} none (some i) → A

@@ -9,7 +9,6 @@ use lib.Dec.{eqb}
 use lib.ListN.{length, get_or}
 use borrow.Author.Tests.{eq-eqb, ne_eqb}
 use Rattle.laws.proofs.Tests.{by_less, by-same}
-use Rattle.std.specs.Prelude.{if◌then◌else◌}
 use Rattle.paper.specs.Words.{word_limit}
 use Rattle.paper.specs.Checks.{the_body, the_handler}
 use Rattle.store_cells.specs.Cells.{cells_of, Put}
@@ -19,7 +18,7 @@ use Rattle.store_writing.specs.Promises.{tail_with, Rewritten, Linked, Headed}
 use Rattle.store_writing.proofs.Keeping.{cell_below, cell-above}
 use Rattle.store_writing.proofs.Rewriting.{rewritten-head, rewritten-tail, rewritten-other}
 use Rattle.check_links.specs.Raw.{end_of}
-use Rattle.check_routines.specs.Parts.{names_routine, result_in, name_with, first_behind, Closes, Finishes}
+use Rattle.check_routines.specs.Parts.{names_routine, first_behind, Closes, Finishes}
 use Rattle.code.specs.Steps.{an_end, a_function_end, an_undo_end, the_parameters}
 use Rattle.layout.specs.Kinds as kinds
 
@@ -32,31 +31,6 @@ module _ (m h : ℕ) where
   pub of-kind : (k : ℕ) → k ≡ kinds.kind_in m → k ≡ kinds.a_routine → (v : ℕ) → v ≡ value_in m → eqb v h ≡ names_routine m h
   unfolding names_routine
   of-kind k e q v w = ap (λ (x : ℕ). eqb x h) w ∙ rw (eq-eqb (kinds.kind_in m) kinds.a_routine (sym e ∙ q)) refl
-
-module _ (C : List ℕ) (h : ℕ) where
-  pub a-proc-head : {s : ℕ} → s ≡ op_at C h → s ≡ 69 → 0 ≡ result_in C h
-  unfolding result_in
-  a-proc-head e p = rw (eq-eqb (op_at C h) 69 (sym e ∙ p))
-
-  module _ {s : ℕ} (e : s ≡ op_at C h) (n : s ≡ 69 → ⊥) where
-    no-proc : eqb (op_at C h) 69 ≡ false
-    no-proc = ne_eqb (op_at C h) 69 (λ q. n (e ∙ q))
-
-    pub a-bool-head : {t : ℕ} → t ≡ op_at C (h + 1) → t ≡ 90 → 2 ≡ result_in C h
-    unfolding result_in
-    a-bool-head f p = rw no-proc (rw (eq-eqb (op_at C (h + 1)) 90 (sym f ∙ p)))
-
-    pub a-num-head : {t : ℕ} → t ≡ op_at C (h + 1) → (t ≡ 90 → ⊥) → 1 ≡ result_in C h
-    unfolding result_in
-    a-num-head f p = rw no-proc (rw (ne_eqb (op_at C (h + 1)) 90 (λ q. p (f ∙ q))))
-
-pub name-next : (result h : ℕ) → result ≡ 0 → h + 1 ≡ name_with result h
-unfolding name_with
-name-next result h e = rw (eq-eqb result 0 e)
-
-pub name-later : (result h : ℕ) → (result ≡ 0 → ⊥) → h + 2 ≡ name_with result h
-unfolding name_with
-name-later result h d = rw (ne_eqb result 0 d)
 
 -- ---- where a list begins
 module _ (e z : ℕ) where

@@ -24,14 +24,15 @@ use Rattle.faults.proofs.Expressions.{grows}
 use Rattle.check_links.specs.Raw.{Ground, SameWords, RawList, end_of}
 use Rattle.check_around.specs.declared.Setting.{Setting}
 use Rattle.check_names.specs.declared.Scope.{Scope}
-use Rattle.check_names.specs.declared.Walked.{Walked}
-use Rattle.check_names.specs.declared.Walked.TheVariants.{Upto, Faulty}
 use Rattle.check_statements.specs.Answers.{Lists, Listed, Tell, Answer}
 use Rattle.check_program.specs.Routines.{words_in_all, ground_for, RawOptional}
 use Rattle.check_routines.specs.Answers.{ground_of}
 use Rattle.check_routines.specs.Parts.{first_behind, Inside, Onward, ground_in, BehindStands, LinesBehind, Behind}
 use Rattle.check_routines.proofs.Leaves.{no-list-behind, a-list-behind}
 use Rattle.check_routines.proofs.OneList.{onward-on, list-stands, list-answered, lines_of}
+use Rattle.check_names.specs.Scopes.{Walked}
+use Rattle.std.specs.Prelude.{Ok, Err}
+use Rattle.layout.specs.Broken.{as_fault}
 
 -- ---- a list that is there or not
 no-faults : (W : List Word) (K : checks.Setting) (M : Memory) (S : Scopes) (n : ℕ) (o : Option RoutineList) → o ≡ none → optional_faults W K M S n o ≡ []
@@ -63,7 +64,7 @@ module _ (g : Ground) (C : List ℕ) (m : Module) (r : Routine) (o : Option Rout
 answer-as : (fs gs : List Fault) (before after values values' : List ℕ) (at to count many : ℕ) (P Q : Type 0) (x : Walked) → Answer fs before after values values' at to count P x → fs ≡ gs → count ≡ many → (P → Q)
     → Answer gs before after values values' at to many Q x
 unfolding Tell
-answer-as fs gs before after values values' at to count many P Q (Upto next scope) a e c f = record {
+answer-as fs gs before after values values' at to count many P Q (Ok (next, scope)) a e c f = record {
   tells = let d = a.tells in record {
     none = sym e ∙ d.none;
     next-is = d.next-is;
@@ -75,8 +76,8 @@ answer-as fs gs before after values values' at to count many P Q (Upto next scop
   };
   long = a.long;
 }
-answer-as fs gs before after values values' at to count many P Q (Faulty number word) a e c f = record {
-  tells = subst (First (record { number = number; at = word })) e a.tells;
+answer-as fs gs before after values values' at to count many P Q (Err broken) a e c f = record {
+  tells = subst (First (as_fault broken)) e a.tells;
   long = a.long;
 }
 
@@ -143,7 +144,7 @@ module _ (text code values : List ℕ) (k : Setting) (used leader e : ℕ) where
 
   -- ---- answers
   module _ {op : ℕ} (o : op ≡ op_at (cells_of code) e) where
-    pub behind-missing : (op ≡ leader → ⊥) → (scope : Scope) → scope.used ≡ used → Behind text code values code values k used leader e (Upto e scope)
+    pub behind-missing : (op ≡ leader → ⊥) → (scope : Scope) → scope.used ≡ used → Behind text code values code values k used leader e (Ok (e, scope))
     unfolding Tell
     behind-missing d scope u = record {
       is = λ g. let n = missing g o d in record {

@@ -1,44 +1,37 @@
 -- A list of a routine: what its walk asks, and what it leaves.
 use Rattle.check_names.specs.Promises.{number_limit}
 use mathlib.Core.Path.{◌≡◌, refl, sym, ap, subst, ◌∙◌}
-use mathlib.Core.Bool.{true, false, not}
-use mathlib.Core.List.{List, []}
+use mathlib.Core.List.{List}
 use mathlib.Core.Option.{Option, none, some}
-use Prim.Native.Nat.{ℕ, ◌+◌, ◌*◌, ◌%◌, ◌/◌, ◌<◌, ◌≤◌}
+use Prim.Native.Nat.{ℕ, ◌+◌, ◌*◌, ◌%◌, ◌≤◌}
 use native.Mathlib.Omega.{arith}
-use lib.Dec.{eqb}
-use lib.ListN.{length, get_or}
-use borrow.Author.Tests.{eq-eqb, ne_eqb}
-use Rattle.laws.proofs.Tests.{test}
-use Rattle.std.specs.Prelude.{if◌then◌else◌}
+use lib.ListN.{length}
 use Rattle.paper.specs.Words.{Word}
 use Rattle.paper.specs.Trees.{RoutineList, Routine, Module}
-use Rattle.paper.specs.Names.{Scopes, sort_in}
+use Rattle.paper.specs.Names.{sort_in}
 use Rattle.paper.specs.Expressions.{nestings}
-use Rattle.paper.specs.Declarations.{result_asked, routine_data, routine_scopes, signatures}
+use Rattle.paper.specs.Declarations.{result_asked, routine_scopes, signatures}
 use Rattle.paper.specs.Checks.{WhichList, is_some, setting_in, fors_in_list, list_faults}
 use Rattle.store_cells.specs.Cells.{cells_of}
-use Rattle.code.specs.Cells.{op_in, value_in, place_in, head_at, tail_at, op_at, place_at}
+use Rattle.code.specs.Cells.{op_in, value_in, place_in, head_at, op_at, place_at}
 use Rattle.store_evaluation.specs.Answers.{call_slots}
-use Rattle.grammar.specs.Form.{Parses, ListAt, RoutineListAt}
+use Rattle.grammar.specs.Form.{Parses, RoutineListAt}
 use Rattle.faults.specs.Parts.{memory_of}
-use Rattle.check_expressions.specs.Known.{Fresh}
 use Rattle.check_links.specs.Raw.{Ground, SameWords, RawList, end_of}
 use Rattle.check_links.proofs.Framing.{list-frame}
 use Rattle.check_around.specs.declared.Setting.{Setting}
-use Rattle.check_around.specs.Around.{Apart, ResultIs, Tells}
-use Rattle.check_around.specs.Around as simple
-use Rattle.check_names.specs.declared.Walked.{Walked}
+use Rattle.check_around.specs.Around.{ResultIs, Tells}
 use Rattle.check_compounds.specs.Here.{Outside}
 use Rattle.check_statements.specs.Answers.{Lists, Listed, Answer}
 use Rattle.check_program.specs.Routines.{words_in_all, ground_for, RawLines}
-use Rattle.check_program.proofs.Orders.{lies}
 use Rattle.check_routines.specs.Answers.{ground_of}
 use Rattle.check_routines.specs.Parts.{Inside, Onward, ground_in, data_slots}
 use Rattle.check_routines.proofs.KnownInside.{around, here, ground-is}
-use Rattle.layout.specs.Types.{type_in}
-use borrow.Author.Tests.{eqb-true, eqb-false}
-use Rattle.laws.proofs.Tests.{false-true}
+use Rattle.layout.specs.Types.{given_back}
+use Rattle.layout.specs.declared.types.ValueType.{ValueType}
+use Rattle.std.specs.Prelude as core
+use Rattle.std.specs.Prelude.{Some, None}
+use Rattle.check_names.specs.Scopes.{Walked}
 
 -- ---- cells outside
 pub outside-on : {C D E : List ℕ} {a b x y p q : ℕ} → p ≤ a → p ≤ x → b ≤ q → y ≤ q → Outside C D a b → Outside D E x y → Outside C E p q
@@ -50,20 +43,14 @@ unfolding is_some result_asked
 kind-asked W k none = refl
 kind-asked W k (some t) = refl
 
-not_some : {A : Type 0} (o : Option A) → is_some o ≡ false → o ≡ none
+given-some : (result : core.Option ValueType) → core.is_some result ≡ is_some (given_back result)
 unfolding is_some
-not_some none e = refl
-not_some (some x) e = false-true (sym e)
+given-some None = refl
+given-some (Some type) = refl
 
--- the flag that the code computes: no_type is a PROC's
-pub function-flag : (result : ℕ) (o : Option ℕ) (W : List Word) (k : ℕ) → ResultIs (result_asked W k o) result → not (eqb result 0) ≡ is_some o
-unfolding is_some type_in
-function-flag result o W k e =
-    test (eqb result 0)
-    (λ z. ap not z ∙ sym (ap is_some (e.is ∙ ap type_in (eqb-true result 0 z))) ∙ kind-asked W k o)
-    (λ z. test (is_some o)
-    (λ y. ap not z ∙ sym y)
-    (λ y. absurd (eqb-false result 0 z (e.plain (not_some (result_asked W k o) (kind-asked W k o ∙ y))))))
+-- the flag that the code computes: none is a PROC's
+pub function-flag : (result : core.Option ValueType) (o : Option ℕ) (W : List Word) (k : ℕ) → ResultIs (result_asked W k o) result → core.is_some result ≡ is_some o
+function-flag result o W k e = given-some result ∙ sym (ap is_some e.is) ∙ kind-asked W k o
 
 module _ {text values : List ℕ} {k h : ℕ} (s : Inside text values k h) where
   abbrev W : List Word

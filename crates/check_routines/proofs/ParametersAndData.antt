@@ -1,23 +1,19 @@
 -- Parameters and data of a routine: where their words lie, and what stays of them.
-use mathlib.Core.Path.{◌≡◌, refl, sym, ap, ap₂, subst, ◌∙◌}
-use mathlib.Core.Bool.{Bool, true, false}
+use mathlib.Core.Path.{◌≡◌, refl, sym, ap, subst, ◌∙◌}
+use mathlib.Core.Bool.{false}
 use mathlib.Core.List.{List, [], ◌∷◌, ◌++◌, map}
-use Prim.Native.Nat.{ℕ, zero, suc, ◌+◌, ◌-◌, ◌*◌, ◌<◌, ◌≤◌}
+use Prim.Native.Nat.{ℕ, zero, suc, ◌+◌, ◌*◌, ◌<◌, ◌≤◌}
 use native.Mathlib.Omega.{arith}
-use lib.ListN.{length, get_or, replicate}
-use lib.IntN.{ℤ}
+use lib.ListN.{length}
 use Rattle.laws.proofs.Tests.{test, false-true}
 use Rattle.paper.specs.Sorts.{equal_texts}
 use Rattle.paper.specs.Words.{Word}
 use Rattle.paper.specs.Trees.{Declared, Parameter}
-use Rattle.paper.specs.Names.{Text, Scopes, sort_in, spelled, is_among}
-use Rattle.paper.specs.Checks.{fors_in_list}
-use Rattle.code.specs.Cells.{place_in, link_in, head_at, tail_at, op_at, place_at, link_at}
-use Rattle.code.specs.Steps.{constant_at, a_datum}
-use Rattle.check_names.specs.Numbers.{IsName}
-use Rattle.check_names.specs.Meanings.{is_protected, meaning_in, protects_cell, Keeps}
-use Rattle.grammar.specs.Form.{Parses, SeparatedAt, last_one, one_more, ClosedAt, closed-at-once, closed-later, RepeatedAt, none-starts, one-starts}
-use Rattle.grammar.specs.Form.{ParameterAt, ParametersAt, DeclaredAt, DeclarationsAt}
+use Rattle.paper.specs.Names.{Text, sort_in, spelled, is_among}
+use Rattle.code.specs.Cells.{link_in, head_at, tail_at}
+use Rattle.check_names.specs.Meanings.{meaning_in, protects_cell}
+use Rattle.grammar.specs.Form.{Parses, SeparatedAt, last_one, one_more, closed-at-once, closed-later, none-starts, one-starts}
+use Rattle.grammar.specs.Form.{ParameterAt, ParametersAt, DeclarationsAt}
 use Rattle.grammar.proofs.Places.{content-grows, declarations-grow}
 use Rattle.faults.proofs.Expressions.{grows}
 use Rattle.check_sites.specs.Sites.{Site}

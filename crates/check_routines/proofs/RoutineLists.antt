@@ -1,11 +1,10 @@
 -- The lists of a routine, one behind another.
 use mathlib.Core.Path.{◌≡◌, refl, sym, ap, subst, ◌∙◌}
-use mathlib.Core.Bool.{Bool, not}
+use mathlib.Core.Bool.{Bool}
 use mathlib.Core.List.{List}
 use mathlib.Core.Option.{Option}
 use Prim.Native.Nat.{ℕ, ◌+◌, ◌*◌, ◌<◌, ◌≤◌}
 use native.Mathlib.Omega.{arith}
-use lib.Dec.{eqb}
 use lib.ListN.{length, get_or}
 use Rattle.paper.specs.Sorts.{ERROR, UNDO}
 use Rattle.paper.specs.Words.{Word, word_limit}
@@ -31,24 +30,29 @@ use Rattle.check_links.proofs.Framing.{same-cells}
 use Rattle.check_heads.specs.Trees.{heads_for}
 use Rattle.check_sites.specs.Sites.{a_routine, filling}
 use Rattle.check_around.specs.declared.Setting.{Setting}
-use Rattle.check_around.specs.Around.{offset_in, body_list, handler_list, undo_list, list_code, Tells}
+use Rattle.check_around.specs.Around.{offset_in, list_code, Tells}
+use Rattle.check_around.specs.declared.lists.WhichList as lists
+use Rattle.check_around.specs.declared.lists.WhichList.TheVariants.{Body, Handler, Undo}
 use Rattle.check_names.specs.declared.Scope.{Scope}
-use Rattle.check_names.specs.declared.Walked.{Walked}
-use Rattle.check_names.specs.declared.Walked.TheVariants.{Upto, Faulty}
 use Rattle.check_statements.specs.Answers.{SameValues, Listed, Tell, Answer}
 use Rattle.check_statements.specs.Answers as statements
 use Rattle.check_compounds.specs.Here.{Outside}
 use Rattle.check_program.specs.Routines.{words_in_all, used_by_body, used_by_both, ground_for, RawLines, RawOptional}
 use Rattle.check_program.proofs.Orders.{lies}
 use Rattle.check_routines.specs.Answers.{ground_of}
+use Rattle.layout.specs.declared.types.ValueType.{ValueType}
 use Rattle.check_routines.specs.Parts.{Closes, Inside, ground_in, data_slots, BehindStands, LinesBehind, Behind, ListsStand, ListsDone, SaysLists, Lists}
 use Rattle.check_routines.proofs.ValueStore.{filled-same}
 use Rattle.check_routines.proofs.OneList.{function-flag, outside-on, onward-on, list-stands, list-answered, lines_of}
 use Rattle.check_routines.proofs.ListBehind.{optional-of}
+use Rattle.check_names.specs.Scopes.{Walked}
+use Rattle.std.specs.Prelude as core
+use Rattle.std.specs.Prelude.{Ok, Err}
+use Rattle.layout.specs.declared.rules.Breach.{Breach}
 
-module _ (text code values : List ℕ) (result taken h at : ℕ) where
+module _ (text code values : List ℕ) (result : core.Option ValueType) (taken h at : ℕ) where
   -- the setting of a list
-  abbrev setting : ℕ → Setting
+  abbrev setting : lists.WhichList → Setting
   setting l = record { result = result; list = l }
 
   module _ (g : ListsStand text code values result taken h at) where
@@ -159,7 +163,7 @@ module _ (text code values : List ℕ) (result taken h at : ℕ) where
 
     -- a list is done
     come-on : {code₁ values₁ code₂ values₂ : List ℕ} {from used to count z : ℕ} {n : Scope} {fs : List Fault} {P : Type 0} → Come code₁ values₁ from used → at ≤ from → from ≤ to
-        → Answer fs code₁ code₂ values₁ values₂ (from + 1) to count P (Upto z n) → Come code₂ values₂ to n.used
+        → Answer fs code₁ code₂ values₁ values₂ (from + 1) to count P (Ok (z, n)) → Come code₂ values₂ to n.used
     unfolding Tell
     come-on c low near a =
         let d = a.tells in
@@ -183,12 +187,12 @@ module _ (text code values : List ℕ) (result taken h at : ℕ) where
     body-room : taken + fors_in_list r.body.statements ≤ words_in_all (ground_in s) m r
     body-room = omega (arith, g.used-is, enough)
 
-    pub lists-list : statements.Lists text code values (setting body_list) taken at
+    pub lists-list : statements.Lists text code values (setting Body) taken at
     unfolding list_code
-    lists-list = list-stands s the_body r.body code at closes taken (setting body_list) g.onward (tells-so the_body) form-here closes-inside many few body-room
+    lists-list = list-stands s the_body r.body code at closes taken (setting Body) g.onward (tells-so the_body) form-here closes-inside many few body-room
 
     abbrev L : (code₁ values₁ : List ℕ) → Walked → Type 0
-    L code₁ values₁ x = Listed text code values code₁ values₁ (setting body_list) taken at x
+    L code₁ values₁ x = Listed text code values code₁ values₁ (setting Body) taken at x
 
     abbrev BodyAnswer : (code₁ values₁ : List ℕ) → Walked → Type 0
     BodyAnswer code₁ values₁ x =
@@ -200,12 +204,12 @@ module _ (text code values : List ℕ) (result taken h at : ℕ) where
     answered code₁ values₁ x y =
         subst (λ (u : ℕ). Answer (list_faults W (K the_body) M r.body.statements S u) code code₁ values values₁ at closes (u + fors_in_list r.body.statements)
         (RawList (ground_for (ground_in s) m r) (words_in_all (ground_in s) m r) (cells_of code₁) r.body.statements S taken at closes) x) g.used-is
-        (list-answered s the_body r.body code at closes taken (setting body_list) g.onward (tells-so the_body) form-here closes-inside many few body-room code₁ values₁ x y)
+        (list-answered s the_body r.body code at closes taken (setting Body) g.onward (tells-so the_body) form-here closes-inside many few body-room code₁ values₁ x y)
 
     -- ---- the ERROR list
-    module _ (code₁ values₁ : List ℕ) (e : ℕ) (n : Scope) (x : L code₁ values₁ (Upto e n)) where
-      first : BodyAnswer code₁ values₁ (Upto e n)
-      first = answered code₁ values₁ (Upto e n) x
+    module _ (code₁ values₁ : List ℕ) (e : ℕ) (n : Scope) (x : L code₁ values₁ (Ok (e, n))) where
+      first : BodyAnswer code₁ values₁ (Ok (e, n))
+      first = answered code₁ values₁ (Ok (e, n)) x
 
       e-is : e ≡ closes
       unfolding Tell
@@ -225,28 +229,28 @@ module _ (text code values : List ℕ) (result taken h at : ℕ) where
       room₁ : n.used + fors_in_optional r.handler ≤ words_in_all (ground_in s) m r
       room₁ = omega (arith, used₁, enough)
 
-      pub handler-stands : BehindStands text code₁ values₁ (setting handler_list) n.used ERROR e
+      pub handler-stands : BehindStands text code₁ values₁ (setting Handler) n.used ERROR e
       unfolding list_code
       handler-stands =
-          subst (BehindStands text code₁ values₁ (setting handler_list) n.used ERROR) (sym e-is)
-          (behind-stands come₁ order.body the_handler (setting handler_list) (tells-so the_handler) s.stands.form.handler order.undo many₁ room₁)
+          subst (BehindStands text code₁ values₁ (setting Handler) n.used ERROR) (sym e-is)
+          (behind-stands come₁ order.body the_handler (setting Handler) (tells-so the_handler) s.stands.form.handler order.undo many₁ room₁)
 
       abbrev HandlerAnswer : (code₂ values₂ : List ℕ) → Walked → Type 0
       HandlerAnswer code₂ values₂ y =
           Answer (in_handler W m sigs g.k r) code₁ code₂ values₁ values₂ (closes + 1) undo_at (used_by_both (ground_in s) m r) (LinesBehind (ground_in s) (cells_of code₂) m r r.handler (used_by_body (ground_in s) m r) closes) y
 
-      handler-answer : (code₂ values₂ : List ℕ) (y : Walked) → Behind text code₁ values₁ code₂ values₂ (setting handler_list) n.used ERROR e y → HandlerAnswer code₂ values₂ y
+      handler-answer : (code₂ values₂ : List ℕ) (y : Walked) → Behind text code₁ values₁ code₂ values₂ (setting Handler) n.used ERROR e y → HandlerAnswer code₂ values₂ y
       unfolding list_code ground_of
       handler-answer code₂ values₂ y b =
           subst (λ (u : ℕ). Answer (optional_faults W (K the_handler) M S u r.handler) code₁ code₂ values₁ values₂ (closes + 1) undo_at (u + fors_in_optional r.handler)
           (LinesBehind (ground_in s) (cells_of code₂) m r r.handler u closes) y) used₁
-          (behind-answer come₁ order.body the_handler (setting handler_list) (tells-so the_handler) s.stands.form.handler order.undo many₁ room₁ code₂ values₂ y
-          (subst (λ (i : ℕ). Behind text code₁ values₁ code₂ values₂ (setting handler_list) n.used ERROR i y) e-is b))
+          (behind-answer come₁ order.body the_handler (setting Handler) (tells-so the_handler) s.stands.form.handler order.undo many₁ room₁ code₂ values₂ y
+          (subst (λ (i : ℕ). Behind text code₁ values₁ code₂ values₂ (setting Handler) n.used ERROR i y) e-is b))
 
       -- ---- the UNDO list
-      module _ (code₂ values₂ : List ℕ) (z : ℕ) (n₂ : Scope) (b : Behind text code₁ values₁ code₂ values₂ (setting handler_list) n.used ERROR e (Upto z n₂)) where
-        second : HandlerAnswer code₂ values₂ (Upto z n₂)
-        second = handler-answer code₂ values₂ (Upto z n₂) b
+      module _ (code₂ values₂ : List ℕ) (z : ℕ) (n₂ : Scope) (b : Behind text code₁ values₁ code₂ values₂ (setting Handler) n.used ERROR e (Ok (z, n₂))) where
+        second : HandlerAnswer code₂ values₂ (Ok (z, n₂))
+        second = handler-answer code₂ values₂ (Ok (z, n₂)) b
 
         z-is : z ≡ undo_at
         unfolding Tell
@@ -268,29 +272,29 @@ module _ (text code values : List ℕ) (result taken h at : ℕ) where
         room₂ : n₂.used + fors_in_optional r.undo ≤ words_in_all (ground_in s) m r
         room₂ = omega (arith, used₂, enough)
 
-        pub undo-stands : BehindStands text code₂ values₂ (setting undo_list) n₂.used UNDO z
+        pub undo-stands : BehindStands text code₂ values₂ (setting Undo) n₂.used UNDO z
         unfolding list_code
         undo-stands =
-            subst (BehindStands text code₂ values₂ (setting undo_list) n₂.used UNDO) (sym z-is)
-            (behind-stands come₂ low₂ the_undo (setting undo_list) (tells-so the_undo) s.stands.form.undo (omega arith) many₂ room₂)
+            subst (BehindStands text code₂ values₂ (setting Undo) n₂.used UNDO) (sym z-is)
+            (behind-stands come₂ low₂ the_undo (setting Undo) (tells-so the_undo) s.stands.form.undo (omega arith) many₂ room₂)
 
         abbrev UndoAnswer : (code₃ values₃ : List ℕ) → Walked → Type 0
         UndoAnswer code₃ values₃ y =
             Answer (in_undo_list W m sigs g.k r) code₂ code₃ values₂ values₃ (undo_at + 1) end (used_by_both (ground_in s) m r + fors_in_optional r.undo)
             (LinesBehind (ground_in s) (cells_of code₃) m r r.undo (used_by_both (ground_in s) m r) undo_at) y
 
-        undo-answer : (code₃ values₃ : List ℕ) (y : Walked) → Behind text code₂ values₂ code₃ values₃ (setting undo_list) n₂.used UNDO z y → UndoAnswer code₃ values₃ y
+        undo-answer : (code₃ values₃ : List ℕ) (y : Walked) → Behind text code₂ values₂ code₃ values₃ (setting Undo) n₂.used UNDO z y → UndoAnswer code₃ values₃ y
         unfolding list_code ground_of
         undo-answer code₃ values₃ y d =
             subst (λ (u : ℕ). Answer (optional_faults W (K the_undo) M S u r.undo) code₂ code₃ values₂ values₃ (undo_at + 1) end (u + fors_in_optional r.undo)
             (LinesBehind (ground_in s) (cells_of code₃) m r r.undo u undo_at) y) used₂
-            (behind-answer come₂ low₂ the_undo (setting undo_list) (tells-so the_undo) s.stands.form.undo (omega arith) many₂ room₂ code₃ values₃ y
-            (subst (λ (i : ℕ). Behind text code₂ values₂ code₃ values₃ (setting undo_list) n₂.used UNDO i y) z-is d))
+            (behind-answer come₂ low₂ the_undo (setting Undo) (tells-so the_undo) s.stands.form.undo (omega arith) many₂ room₂ code₃ values₃ y
+            (subst (λ (i : ℕ). Behind text code₂ values₂ code₃ values₃ (setting Undo) n₂.used UNDO i y) z-is d))
 
         -- ---- all of them
-        module _ (code₃ values₃ : List ℕ) (w : ℕ) (n₃ : Scope) (d : Behind text code₂ values₂ code₃ values₃ (setting undo_list) n₂.used UNDO z (Upto w n₃)) where
-          third : UndoAnswer code₃ values₃ (Upto w n₃)
-          third = undo-answer code₃ values₃ (Upto w n₃) d
+        module _ (code₃ values₃ : List ℕ) (w : ℕ) (n₃ : Scope) (d : Behind text code₂ values₂ code₃ values₃ (setting Undo) n₂.used UNDO z (Ok (w, n₃))) where
+          third : UndoAnswer code₃ values₃ (Ok (w, n₃))
+          third = undo-answer code₃ values₃ (Ok (w, n₃)) d
 
           w-is : w ≡ end
           unfolding Tell
@@ -309,7 +313,7 @@ module _ (text code values : List ℕ) (result taken h at : ℕ) where
                 omega (arith, w-is, come₃.long, g.onward.unread.loaded.room),
               )
 
-          module _ (code₄ : List ℕ) (f : Bool) (fl : f ≡ not (eqb result 0)) (c : Closes code₃ code₄ f h e z w) where
+          module _ (code₄ : List ℕ) (f : Bool) (fl : f ≡ core.is_some result) (c : Closes code₃ code₄ f h e z w) where
             -- in the paper's words
             ends : Closes code₃ code₄ (is_some r.result) h closes undo_at end
             ends =
@@ -419,61 +423,58 @@ module _ (text code values : List ℕ) (result taken h at : ℕ) where
   abbrev Stand : Type 0
   Stand = ListsStand text code values result taken h at
 
-  module _ (code₁ values₁ : List ℕ) (x : Walked) (l : Listed text code values code₁ values₁ (setting body_list) taken at x) where
-    pub first-faulty : (number word : ℕ) → x ≡ Faulty number word → Lists text code values code₁ values₁ result taken h at x
+  module _ (code₁ values₁ : List ℕ) (x : Walked) (l : Listed text code values code₁ values₁ (setting Body) taken at x) where
+    pub first-faulty : (broken : Breach) → x ≡ Err broken → Lists text code values code₁ values₁ result taken h at (Err broken)
     unfolding SaysLists Tell
-    first-faulty number word q = record {
+    first-faulty broken q = record {
       is = λ g.
-          subst (SaysLists g code₁ values₁) (sym q)
-          (found-in-body (W g) (m g) (sigs g) g.k (s g).stands.form (s g).none (answered g code₁ values₁ (Faulty number word) (subst (L g code₁ values₁) q l)).tells);
+          found-in-body (W g) (m g) (sigs g) g.k (s g).stands.form (s g).none (answered g code₁ values₁ (Err broken) (subst (L g code₁ values₁) q l)).tells;
     }
 
-    module _ (e : ℕ) (n : Scope) (q : x ≡ Upto e n) where
-      body-walked : (g : Stand) → L g code₁ values₁ (Upto e n)
+    module _ (e : ℕ) (n : Scope) (q : x ≡ Ok (e, n)) where
+      body-walked : (g : Stand) → L g code₁ values₁ (Ok (e, n))
       body-walked g = subst (L g code₁ values₁) q l
 
-      pub handler-asks : Stand → BehindStands text code₁ values₁ (setting handler_list) n.used ERROR e
+      pub handler-asks : Stand → BehindStands text code₁ values₁ (setting Handler) n.used ERROR e
       handler-asks g = handler-stands g code₁ values₁ e n (body-walked g)
 
       abbrev H : (code₂ values₂ : List ℕ) → Walked → Type 0
-      H code₂ values₂ y = Behind text code₁ values₁ code₂ values₂ (setting handler_list) n.used ERROR e y
+      H code₂ values₂ y = Behind text code₁ values₁ code₂ values₂ (setting Handler) n.used ERROR e y
 
       module _ (code₂ values₂ : List ℕ) (y : Walked) (b : H code₂ values₂ y) where
-        pub second-faulty : (number word : ℕ) → y ≡ Faulty number word → Lists text code values code₂ values₂ result taken h at y
+        pub second-faulty : (broken : Breach) → y ≡ Err broken → Lists text code values code₂ values₂ result taken h at (Err broken)
         unfolding SaysLists Tell
-        second-faulty number word p = record {
+        second-faulty broken p = record {
           is = λ g.
-              subst (SaysLists g code₂ values₂) (sym p)
-              (found-in-handler (W g) (m g) (sigs g) g.k (s g).stands.form (s g).none (first g code₁ values₁ e n (body-walked g)).tells.none
-              (handler-answer g code₁ values₁ e n (body-walked g) code₂ values₂ (Faulty number word) (subst (H code₂ values₂) p b)).tells);
+              found-in-handler (W g) (m g) (sigs g) g.k (s g).stands.form (s g).none (first g code₁ values₁ e n (body-walked g)).tells.none
+              (handler-answer g code₁ values₁ e n (body-walked g) code₂ values₂ (Err broken) (subst (H code₂ values₂) p b)).tells;
         }
 
-        module _ (z : ℕ) (n₂ : Scope) (p : y ≡ Upto z n₂) where
-          handler-walked : H code₂ values₂ (Upto z n₂)
+        module _ (z : ℕ) (n₂ : Scope) (p : y ≡ Ok (z, n₂)) where
+          handler-walked : H code₂ values₂ (Ok (z, n₂))
           handler-walked = subst (H code₂ values₂) p b
 
-          pub undo-asks : Stand → BehindStands text code₂ values₂ (setting undo_list) n₂.used UNDO z
+          pub undo-asks : Stand → BehindStands text code₂ values₂ (setting Undo) n₂.used UNDO z
           undo-asks g = undo-stands g code₁ values₁ e n (body-walked g) code₂ values₂ z n₂ handler-walked
 
           abbrev U : (code₃ values₃ : List ℕ) → Walked → Type 0
-          U code₃ values₃ v = Behind text code₂ values₂ code₃ values₃ (setting undo_list) n₂.used UNDO z v
+          U code₃ values₃ v = Behind text code₂ values₂ code₃ values₃ (setting Undo) n₂.used UNDO z v
 
           module _ (code₃ values₃ : List ℕ) (v : Walked) (d : U code₃ values₃ v) where
-            pub third-faulty : (number word : ℕ) → v ≡ Faulty number word → Lists text code values code₃ values₃ result taken h at v
+            pub third-faulty : (broken : Breach) → v ≡ Err broken → Lists text code values code₃ values₃ result taken h at (Err broken)
             unfolding SaysLists Tell
-            third-faulty number word t = record {
+            third-faulty broken t = record {
               is = λ g.
-                  subst (SaysLists g code₃ values₃) (sym t)
-                  (found-in-undo (W g) (m g) (sigs g) g.k (s g).stands.form (s g).none (first g code₁ values₁ e n (body-walked g)).tells.none
+                  found-in-undo (W g) (m g) (sigs g) g.k (s g).stands.form (s g).none (first g code₁ values₁ e n (body-walked g)).tells.none
                   (second g code₁ values₁ e n (body-walked g) code₂ values₂ z n₂ handler-walked).tells.none
-                  (undo-answer g code₁ values₁ e n (body-walked g) code₂ values₂ z n₂ handler-walked code₃ values₃ (Faulty number word) (subst (U code₃ values₃) t d)).tells);
+                  (undo-answer g code₁ values₁ e n (body-walked g) code₂ values₂ z n₂ handler-walked code₃ values₃ (Err broken) (subst (U code₃ values₃) t d)).tells;
             }
 
-            module _ (w : ℕ) (n₃ : Scope) (t : v ≡ Upto w n₃) where
+            module _ (w : ℕ) (n₃ : Scope) (t : v ≡ Ok (w, n₃)) where
               pub ends-ask : Stand → (h + 1 < e) × (e ≤ z) × (z ≤ w) × (w < word_limit) × (w * 8 + 8 ≤ length code₃)
               ends-ask g = ends-stand g code₁ values₁ e n (body-walked g) code₂ values₂ z n₂ handler-walked code₃ values₃ w n₃ (subst (U code₃ values₃) t d)
 
-              pub lists-done : (code₄ : List ℕ) (f : Bool) → f ≡ not (eqb result 0) → Closes code₃ code₄ f h e z w → Lists text code values code₄ values₃ result taken h at (Upto (w + 1) n₃)
+              pub lists-done : (code₄ : List ℕ) (f : Bool) → f ≡ core.is_some result → Closes code₃ code₄ f h e z w → Lists text code values code₄ values₃ result taken h at (Ok (w + 1, n₃))
               unfolding SaysLists
               lists-done code₄ f fl c = record {
                 is = λ g. lists-so g code₁ values₁ e n (body-walked g) code₂ values₂ z n₂ handler-walked code₃ values₃ w n₃ (subst (U code₃ values₃) t d) code₄ f fl c;

@@ -1,27 +1,24 @@
 -- Rule 10 at a routine's name: the name means the routine exactly where it could be declared.
 use mathlib.Core.Path.{◌≡◌, refl, sym, ap, subst, ◌∙◌}
-use mathlib.Core.Bool.{Bool, true, false}
-use mathlib.Core.List.{List, [], ◌∷◌, map}
+use mathlib.Core.Bool.{true, false}
+use mathlib.Core.List.{List, [], ◌∷◌}
 use mathlib.Core.Option.{Option, none, some}
 use Prim.Native.Nat.{ℕ, zero, suc, ◌+◌, ◌/◌, ◌%◌, ◌<◌, ◌≤◌}
 use native.Mathlib.Omega.{arith}
-use lib.Dec.{eqb}
-use lib.ListN.{length, get_or, drop}
-use borrow.Author.Tests.{eq-eqb, ne_eqb, eqb-true}
+use lib.ListN.{length, drop}
+use borrow.Author.Tests.{ne_eqb}
 use Rattle.laws.proofs.Tests.{test, by-same, apart, false-true}
-use Rattle.std.specs.Prelude.{if◌then◌else◌}
 use Rattle.paper.specs.Sorts.{bytes, equal_texts}
 use Rattle.paper.specs.Words.{Word}
 use Rattle.paper.specs.Trees.{Routine, Module}
-use Rattle.paper.specs.Names.{Meaning, unknown, the_routine, routine_in, Text, Names, text_of, spelled, look_in, protected, is_among, meaning, cannot_declare}
+use Rattle.paper.specs.Names.{Meaning, unknown, the_routine, routine_in, Text, Names, spelled, look_in, protected, is_among, meaning, cannot_declare}
 use Rattle.paper.specs.Declarations.{data_texts, routine_names, module_data, module_scopes}
 use Rattle.code.specs.Cells.{op_in, value_in}
-use Rattle.code.specs.Steps.{Head, no_head, numbered}
 use Rattle.check_names.specs.Meanings.{a_routine, is_protected, meaning_with, meaning_in}
 use Rattle.check_names.proofs.Spellings.{same-texts, texts-same}
-use Rattle.check_heads.specs.Trees.{head_for, heads_for, first_scopes, earlier_of}
+use Rattle.check_heads.specs.Trees.{heads_for, earlier_of}
 use Rattle.check_heads.proofs.DataToCome.{not_found}
-use Rattle.check_heads.proofs.RoutineNumbers.{drop-less, heads-length}
+use Rattle.check_heads.proofs.RoutineNumbers.{heads-length}
 use Rattle.check_heads.proofs.NamesOfRoutines.{look-here, look-further, look-found, cannot-here, cannot-further, cannot-protected, cannot-among, names-taken, names-new, data-plain, routine-meant}
 
 -- ---- which routine a cell means

@@ -1,45 +1,44 @@
 -- A routine: rules 10 and 16 at its name, and then all behind it.
 use mathlib.Core.Path.{◌≡◌, refl, sym, ap, subst, ◌∙◌}
-use mathlib.Core.Bool.{Bool, true, false, not, ◌||◌}
-use mathlib.Core.List.{List, [], ◌∷◌}
+use mathlib.Core.Bool.{Bool, true, false, ◌||◌}
+use mathlib.Core.List.{List, []}
 use mathlib.Core.Option.{Option, none, some}
 use Prim.Native.Nat.{ℕ, ◌+◌, ◌*◌, ◌/◌, ◌%◌, ◌<◌, ◌≤◌}
 use native.Mathlib.Omega.{arith}
-use lib.Dec.{eqb, ltb}
+use lib.Dec.{eqb}
 use lib.ListN.{length, get_or}
 use borrow.Author.Tests.{eq-eqb, ne_eqb, eqb-true, lt-ltb, le-ltb}
 use Rattle.laws.proofs.Tests.{test, by-same, by_less, false-true}
-use Rattle.std.specs.Prelude.{if◌then◌else◌}
-use Rattle.paper.specs.Sorts.{NUM, BOOL, PROC, FUNC}
+use Rattle.std.specs.Prelude as core
+use Rattle.std.specs.Prelude.{Some, None, Ok, Err}
+use Rattle.paper.specs.Sorts.{NUM}
 use Rattle.paper.specs.Words.{Word, word_limit}
-use Rattle.paper.specs.Trees.{Routine, Module}
+use Rattle.paper.specs.Trees.{Routine}
 use Rattle.paper.specs.Expressions.{is_type}
-use Rattle.paper.specs.Names.{DataType, a_num, a_bool, type_of, Meaning, the_routine, routine_in, Text, sort_in, spelled, meaning, cannot_declare}
-use Rattle.paper.specs.Declarations.{routine_limit, crosses, result_asked, data_texts, module_scopes, module_filling}
+use Rattle.paper.specs.Names.{DataType, a_num, a_bool, type_of, the_routine, routine_in, Text, sort_in, spelled, meaning, cannot_declare}
+use Rattle.paper.specs.Declarations.{routine_limit, crosses, result_asked, module_scopes, module_filling}
 use Rattle.store_cells.specs.Cells.{cells_of}
 use Rattle.code.specs.Cells.{op_in, value_in, op_at}
-use Rattle.code.specs.Steps.{Head, no_head, numbered}
-use Rattle.check_names.specs.Numbers.{number_of}
-use Rattle.check_names.specs.Meanings.{kind_in, first_meaning, meaning_in, cell_for}
-use Rattle.check_names.specs.Promises.{store_bytes, Meant, number_at}
-use Rattle.grammar.specs.Form.{Parses, HeadAt, a-proc, a-func, RoutineAt}
-use Rattle.faults.specs.Left.{head_faults, own_faults}
+use Rattle.code.specs.Steps.{Head, numbered}
+use Rattle.check_names.specs.Meanings.{kind_in, first_meaning, meaning_in}
+use Rattle.check_names.specs.Promises.{Meant, number_at}
+use Rattle.grammar.specs.Form.{Parses, HeadAt, a-proc, a-func}
+use Rattle.faults.specs.Left.{head_faults}
 use Rattle.faults.proofs.Routines.{head-taken, head-crosses, head-fits, found-in-head, found-behind}
-use Rattle.check_heads.specs.Trees.{word_of, head_for, heads_for, earlier_of}
+use Rattle.check_heads.specs.Trees.{word_of, head_for, heads_for}
 use Rattle.check_heads.proofs.RoutineNumbers.{drop-less, heads-length, head-at, word_at, numbered-back}
 use Rattle.check_sites.specs.Sites.{filling}
 use Rattle.check_around.specs.Around.{ResultIs}
 use Rattle.check_program.proofs.Orders.{lies}
-use Rattle.check_names.specs.declared.Walked.{Walked}
-use Rattle.check_names.specs.declared.Walked.TheVariants.{Upto, Faulty}
-use Rattle.check_routines.specs.Answers.{Begins, Goes, Walks, Says, Checks}
+use Rattle.check_routines.specs.Answers.{Begins, Says, Checks}
 use Rattle.check_routines.specs.Parts.{names_routine, result_in, name_with, ScopeStands, SaysScope, Scoped}
 use Rattle.check_routines.proofs.RoutineName.{kind-routine, only-routine, name-means, name-other}
-use Rattle.layout.specs.Rules.{taken_name, too_many}
 use Rattle.layout.specs.Kinds as kinds
 use Rattle.layout.specs.Types.{type_in}
-use Rattle.layout.proofs.Typing.{num-in, bool-in}
-use Rattle.laws.proofs.Tests.{apart}
+use Rattle.layout.specs.declared.types.ValueType.{ValueType}
+use Rattle.layout.specs.declared.types.ValueType.TheVariants as types
+use Rattle.check_names.specs.Scopes.{Walked}
+use Rattle.layout.specs.declared.rules.Rule.TheVariants.{TakenName, TooMany}
 
 -- ---- the head
 type-bool : (s : ℕ) → s ≡ 90 → type_of s ≡ a_bool
@@ -51,15 +50,15 @@ unfolding type_of is_type
 type-num s t d =
     test (eqb s NUM) (λ q. rw q) (λ q. false-true (sym (ne_eqb s 90 d) ∙ sym (ap (λ (b : Bool). b || eqb s 90) q) ∙ t))
 
-read-proc : (C : List ℕ) (h : ℕ) → op_at C h ≡ 69 → result_in C h ≡ 0
+read-proc : (C : List ℕ) (h : ℕ) → op_at C h ≡ 69 → result_in C h ≡ None
 unfolding result_in
 read-proc C h e = rw (eq-eqb (op_at C h) 69 e)
 
-read-bool : (C : List ℕ) (h : ℕ) → (op_at C h ≡ 69 → ⊥) → op_at C (h + 1) ≡ 90 → result_in C h ≡ 2
+read-bool : (C : List ℕ) (h : ℕ) → (op_at C h ≡ 69 → ⊥) → op_at C (h + 1) ≡ 90 → result_in C h ≡ Some types.Bool
 unfolding result_in
 read-bool C h d e = rw (ne_eqb (op_at C h) 69 d) (rw (eq-eqb (op_at C (h + 1)) 90 e))
 
-read-num : (C : List ℕ) (h : ℕ) → (op_at C h ≡ 69 → ⊥) → (op_at C (h + 1) ≡ 90 → ⊥) → result_in C h ≡ 1
+read-num : (C : List ℕ) (h : ℕ) → (op_at C h ≡ 69 → ⊥) → (op_at C (h + 1) ≡ 90 → ⊥) → result_in C h ≡ Some types.Num
 unfolding result_in
 read-num C h d e = rw (ne_eqb (op_at C h) 69 d) (rw (ne_eqb (op_at C (h + 1)) 90 e))
 
@@ -84,25 +83,24 @@ asked : (W : List Word) (k t : ℕ) → crosses routine_limit k 1 ≡ false → 
 unfolding result_asked
 asked W k t f = rw f
 
-pub record HeadRead (W : List Word) (k : ℕ) (o : Option ℕ) (h name result : ℕ) : Type 0 where
+pub record HeadRead (W : List Word) (k : ℕ) (o : Option ℕ) (h name : ℕ) (result : core.Option ValueType) : Type 0 where
   pub name-is : name_with result h ≡ name
   pub result-is : crosses routine_limit k 1 ≡ false → ResultIs (result_asked W k o) result
 
--- a type that a number says
-typed : {o : Option DataType} {result : ℕ} {t : DataType} → type_in result ≡ some t → o ≡ some t → ResultIs o result
-typed w e = record { is = e ∙ sym w; plain = λ n. apart (cc) }
+typed : {o : Option DataType} {type : ValueType} {t : DataType} → type_in type ≡ t → o ≡ some t → ResultIs o (Some type)
+typed w e = record { is = e ∙ ap some (sym w) }
 
 pub head_read : (W : List Word) (k : ℕ) (C : List ℕ) {o : Option ℕ} {closing h name : ℕ} → HeadAt (sort_in W) (Parses (sort_in W)) o closing h name → op_at C h ≡ sort_in W h → op_at C (h + 1) ≡ sort_in W (h + 1)
     → HeadRead W k o h name (result_in C h)
-unfolding name_with type_in result_asked
+unfolding name_with result_asked
 head_read W k C {h = h} {name = name} (a-proc p n c) e f =
-    subst (HeadRead W k none h name) (sym (read-proc C h (e ∙ p))) (record { name-is = sym n; result-is = λ q. record { is = refl; plain = λ _. refl } })
+    subst (HeadRead W k none h name) (sym (read-proc C h (e ∙ p))) (record { name-is = sym n; result-is = λ q. record { is = refl } })
 head_read W k C {h = h} {name = name} (a-func {t = t} p u ty n c) e f =
     by-same (op_at C (h + 1)) 90
     (λ q. subst (HeadRead W k (some t) h name) (sym (read-bool C h (λ z. omega (arith, e ∙ p)) q))
-    (record { name-is = sym n; result-is = λ z. typed bool-in (asked W k t z ∙ ap some (ap type_of u ∙ type-bool (sort_in W (h + 1)) (sym f ∙ q))) }))
+    (record { name-is = sym n; result-is = λ z. typed refl (asked W k t z ∙ ap some (ap type_of u ∙ type-bool (sort_in W (h + 1)) (sym f ∙ q))) }))
     (λ q. subst (HeadRead W k (some t) h name) (sym (read-num C h (λ z. omega (arith, e ∙ p)) q))
-    (record { name-is = sym n; result-is = λ z. typed num-in (asked W k t z ∙ ap some (ap type_of u ∙ type-num (sort_in W (h + 1)) ty (λ y. q (f ∙ y)))) }))
+    (record { name-is = sym n; result-is = λ z. typed refl (asked W k t z ∙ ap some (ap type_of u ∙ type-num (sort_in W (h + 1)) ty (λ y. q (f ∙ y)))) }))
 
 -- ---- rule 16
 pub crosses-here : (k : ℕ) → k ≡ 64 → crosses routine_limit k 1 ≡ true
@@ -123,7 +121,7 @@ module _ (text code values : List ℕ) (k h : ℕ) where
   pub head_small : G → h < word_limit
   head_small b = let o = lies b.stands.W b.stands.form in omega (arith, o.name, o.opens, o.body, o.handler, o.end, b.unread.loaded.last)
 
-  module _ (result name : ℕ) (t : result ≡ result_in (cells_of code) h) (n : name ≡ name_with result h) where
+  module _ (result : core.Option ValueType) (name : ℕ) (t : result ≡ result_in (cells_of code) h) (n : name ≡ name_with result h) where
     read : (b : G) → HeadRead b.stands.W k b.stands.r.result h b.stands.r.name result
     read b =
         let o = lies b.stands.W b.stands.form in
@@ -172,19 +170,19 @@ module _ (text code values : List ℕ) (k h : ℕ) where
           ∙ numbered-back R k (value_in cell) inside p.1 in
           false-true (sym q ∙ names-so cell h p.0 (sym v)))
 
-      pub routine-taken : names_routine cell h ≡ false → Checks text code values code values k h (Faulty taken_name name)
+      pub routine-taken : names_routine cell h ≡ false → Checks text code values code values k h (Err (record { rule = TakenName; word = name }))
       unfolding Says
       routine-taken q = record {
         is = λ b.
-            subst (λ (i : ℕ). Says b code values (Faulty taken_name i)) (sym (name-so b))
+            subst (λ (i : ℕ). Says b code values (Err (record { rule = TakenName; word = i }))) (sym (name-so b))
             (found-in-head b.stands.W b.stands.m b.stands.earlier k b.stands.form (head-taken b.stands.W b.stands.earlier k b.stands.r (taken b q)));
       }
 
-      pub routine-many : names_routine cell h ≡ true → k ≡ 64 → Checks text code values code values k h (Faulty too_many name)
+      pub routine-many : names_routine cell h ≡ true → k ≡ 64 → Checks text code values code values k h (Err (record { rule = TooMany; word = name }))
       unfolding Says
       routine-many q e = record {
         is = λ b.
-            subst (λ (i : ℕ). Says b code values (Faulty too_many i)) (sym (name-so b))
+            subst (λ (i : ℕ). Says b code values (Err (record { rule = TooMany; word = i }))) (sym (name-so b))
             (found-in-head b.stands.W b.stands.m b.stands.earlier k b.stands.form (head-crosses b.stands.W b.stands.earlier k b.stands.r (free b q) (crosses-here k e)));
       }
 
@@ -197,8 +195,8 @@ module _ (text code values : List ℕ) (k h : ℕ) where
 
         says : (b : G) (code' values' : List ℕ) (x : Walked) → SaysScope (routine-scope b) code' values' x → Says b code' values' x
         unfolding Says SaysScope routine-scope
-        says b code' values' (Upto next scope) y = record { none-in-head = nothing b; goes = y }
-        says b code' values' (Faulty number word) y = found-behind b.stands.W b.stands.m b.stands.earlier k b.stands.r (nothing b) y
+        says b code' values' (Ok (next, scope)) y = record { none-in-head = nothing b; goes = y }
+        says b code' values' (Err broken) y = found-behind b.stands.W b.stands.m b.stands.earlier k b.stands.r (nothing b) y
 
         pub routine-done : (code' values' : List ℕ) (x : Walked) → Scoped text code values code' values' result h name x → Checks text code values code' values' k h x
         routine-done code' values' x y = record { is = λ b. says b code' values' x (y.is (routine-scope b)) }

@@ -1,48 +1,48 @@
 -- The scope of a routine: its parameters and data are declared, its lists are checked.
-use mathlib.Core.Path.{◌≡◌, refl, sym, ap, subst, ◌∙◌}
-use mathlib.Core.Bool.{Bool, true, false}
-use mathlib.Core.List.{List, [], ◌∷◌, ◌++◌, map}
-use Prim.Native.Nat.{ℕ, ◌+◌, ◌-◌, ◌*◌, ◌/◌, ◌%◌, ◌<◌, ◌≤◌}
+use mathlib.Core.Path.{◌≡◌, sym, ap, subst, ◌∙◌}
+use mathlib.Core.Bool.{false}
+use mathlib.Core.List.{List, [], ◌++◌, map}
+use Prim.Native.Nat.{ℕ, ◌+◌, ◌*◌, ◌%◌, ◌<◌, ◌≤◌}
 use native.Mathlib.Omega.{arith}
 use lib.ListN.{length, get_or, replicate, length-replicate}
-use lib.IntN.{ℤ, pos}
+use lib.IntN.{pos}
 use Rattle.paper.specs.Words.{Word, word_limit}
 use Rattle.paper.specs.Trees.{Routine, Module}
 use Rattle.paper.specs.Names.{Text, text_of, sort_in, spelled, is_among}
-use Rattle.paper.specs.Types.{Fault}
-use Rattle.paper.specs.Declarations.{Data, no_data, Signature, declare_parameters, declare_data, routine_filling, routine_data, signatures}
+use Rattle.paper.specs.Declarations.{Data, no_data, Signature, declare_parameters, routine_filling, routine_data, signatures}
 use Rattle.paper.specs.Checks.{routine_faults}
 use Rattle.store_cells.specs.Cells.{cells_of}
-use Rattle.code.specs.Cells.{op_in, value_in, place_in, head_at, tail_at, op_at}
+use Rattle.code.specs.Cells.{op_in, value_in, place_in, head_at}
 use Rattle.code.specs.Steps.{Head, numbered}
-use Rattle.code.specs.Signatures.{Heads}
-use Rattle.check_names.specs.Promises.{store_bytes, number_limit}
+use Rattle.check_names.specs.Promises.{number_limit}
 use Rattle.grammar.specs.Form.{Parses, ParametersAt, DeclarationsAt, RoutineAt}
 use Rattle.grammar.proofs.Places.{parameters-grow, declarations-grow}
 use Rattle.faults.specs.First.{First}
 use Rattle.faults.specs.Parts.{in_parameters, in_data}
 use Rattle.faults.proofs.Expressions.{grows}
 use Rattle.faults.proofs.Routines.{found-in-parameters, found-in-data, nothing-in-data}
-use Rattle.check_expressions.specs.Known.{Fresh, Loaded}
+use Rattle.check_expressions.specs.Known.{Fresh}
 use Rattle.check_heads.specs.Trees.{heads_for}
-use Rattle.check_names.specs.declared.Walked.TheVariants.{Upto, Faulty}
 use Rattle.check_sites.specs.Sites.{a_routine, filling, Filled}
 use Rattle.store_writing.specs.Chains.{Chain, starts_in, Rise}
 use Rattle.check_sites.specs.Walks.{name_of, name_words, KeepsAll}
 use Rattle.check_declarations.specs.Answers.{first_of, CoversData, RoutineStands, SaysRoutine, DeclaresRoutine}
 use Rattle.check_parameters.specs.Answers.{OtherWords, ParametersStand, SaysParameters, DeclaresParameters}
-use Rattle.check_around.specs.Around.{Unread, Apart}
 use Rattle.check_program.proofs.Orders.{lies}
 use Rattle.check_names.specs.declared.Scope.{Scope}
 use Rattle.check_routines.specs.Answers.{ground_of, Spares, Begins}
-use Rattle.check_routines.specs.Parts.{Inside, Onward, ListsStand, ScopeStands, SaysScope, Scoped}
+use Rattle.layout.specs.declared.types.ValueType.{ValueType}
+use Rattle.check_routines.specs.Parts.{Inside, Onward, ListsStand, ScopeStands}
 use Rattle.check_routines.proofs.ValueStore.{routine-entered}
 use Rattle.check_routines.proofs.ParametersAndData.{parameters-end}
+use Rattle.std.specs.Prelude.{Option, Ok, Err}
+use Rattle.layout.specs.Broken.{as_fault}
+use Rattle.layout.specs.declared.rules.Breach.{Breach}
 
 fresh_on : (W : List Word) (C D : List ℕ) (i : ℕ) → head_at D i ≡ head_at C i → Fresh W C i → Fresh W D i
 fresh_on W C D i e z = record { sort = ap op_in e ∙ z.sort; value = λ n. ap value_in e ∙ z.value n; number = λ n. ap (λ (w : ℕ). value_in w % number_limit) e ∙ z.number n }
 
-module _ (text code values : List ℕ) (result h name : ℕ) where
+module _ (text code values : List ℕ) (result : Option ValueType) (h name : ℕ) where
   module _ (g : ScopeStands text code values result h name) where
     abbrev b : Begins text code values g.k h
     b = g.begins
@@ -116,12 +116,12 @@ module _ (text code values : List ℕ) (result h name : ℕ) where
       };
     }
 
-    pub parameters-faulty : (code₁ values₁ : List ℕ) (number word : ℕ) → DeclaresParameters code values code₁ values₁ (name + 2) (Faulty number word)
-        → First (record { number = number; at = word }) (routine_faults W m sigs g.k r)
+    pub parameters-faulty : (code₁ values₁ : List ℕ) (broken : Breach) → DeclaresParameters code values code₁ values₁ (name + 2) (Err broken)
+        → First (as_fault broken) (routine_faults W m sigs g.k r)
     unfolding SaysParameters parameters-stand filling
-    parameters-faulty code₁ values₁ number word x = found-in-parameters W m sigs g.k form (x.is parameters-stand)
+    parameters-faulty code₁ values₁ broken x = found-in-parameters W m sigs g.k form (x.is parameters-stand)
 
-    module _ (code₁ values₁ : List ℕ) (close : ℕ) (own : Scope) (x₁ : DeclaresParameters code values code₁ values₁ (name + 2) (Upto close own)) (long₁ : length code₁ ≡ length code) where
+    module _ (code₁ values₁ : List ℕ) (close : ℕ) (own : Scope) (x₁ : DeclaresParameters code values code₁ values₁ (name + 2) (Ok (close, own))) (long₁ : length code₁ ≡ length code) where
       pub record Entered : Type 0 where
         pub close-is : close ≡ form.close
         pub count-is : own.used ≡ length r.parameters
@@ -169,12 +169,12 @@ module _ (text code values : List ℕ) (result h name : ℕ) where
         };
       }
 
-      pub data-faulty : (code₂ values₂ : List ℕ) (number word : ℕ) → DeclaresRoutine code₁ values₁ code₂ values₂ (name + 1) h own.used (close + 1) (Faulty number word)
-          → First (record { number = number; at = word }) (routine_faults W m sigs g.k r)
+      pub data-faulty : (code₂ values₂ : List ℕ) (broken : Breach) → DeclaresRoutine code₁ values₁ code₂ values₂ (name + 1) h own.used (close + 1) (Err broken)
+          → First (as_fault broken) (routine_faults W m sigs g.k r)
       unfolding SaysRoutine data-stand filling
-      data-faulty code₂ values₂ number word x = found-in-data W m sigs g.k form entered.none (x.is data-stand)
+      data-faulty code₂ values₂ broken x = found-in-data W m sigs g.k form entered.none (x.is data-stand)
 
-      module _ (code₂ values₂ : List ℕ) (at : ℕ) (taken : Scope) (x₂ : DeclaresRoutine code₁ values₁ code₂ values₂ (name + 1) h own.used (close + 1) (Upto at taken)) (long₂ : length code₂ ≡ length code) where
+      module _ (code₂ values₂ : List ℕ) (at : ℕ) (taken : Scope) (x₂ : DeclaresRoutine code₁ values₁ code₂ values₂ (name + 1) h own.used (close + 1) (Ok (at, taken))) (long₂ : length code₂ ≡ length code) where
         abbrev ds : List ℕ
         ds = map first_of r.declared
 

@@ -1,32 +1,28 @@
 -- The scope of a routine is left; what is written of it.
 use Rattle.layout.specs.Parts.{link_part}
 use mathlib.Core.Path.{◌≡◌, refl, sym, ap, subst, ◌∙◌}
-use mathlib.Core.Bool.{Bool, true, false}
-use mathlib.Core.List.{List, [], ◌∷◌, ◌++◌, map}
-use Prim.Native.Nat.{ℕ, ◌+◌, ◌-◌, ◌*◌, ◌/◌, ◌%◌, ◌<◌, ◌≤◌}
+use mathlib.Core.Bool.{false}
+use mathlib.Core.List.{List, [], ◌++◌, map}
+use Prim.Native.Nat.{ℕ, ◌+◌, ◌-◌, ◌*◌, ◌<◌, ◌≤◌}
 use native.Mathlib.Omega.{arith}
 use lib.ListN.{length, get_or, replicate}
 use lib.IntN.{ℤ, pos}
 use Rattle.paper.specs.Words.{Word, word_limit}
 use Rattle.paper.specs.Trees.{Routine, Module}
-use Rattle.paper.specs.Names.{Meaning, unknown, Text, Names, text_of, sort_in, spelled, look_in, protected, is_among, meaning}
-use Rattle.paper.specs.Types.{Fault}
-use Rattle.paper.specs.Declarations.{Data, no_data, Signature, routine_filling, routine_data, routine_scopes, module_scopes, signatures}
+use Rattle.paper.specs.Names.{unknown, Text, Names, text_of, sort_in, spelled, look_in, protected, is_among, meaning}
+use Rattle.paper.specs.Declarations.{routine_filling, routine_data, module_scopes, signatures}
 use Rattle.paper.specs.Checks.{the_body, the_handler, the_undo, is_some, routine_faults}
 use Rattle.paper.specs.Steps.{fors_of}
 use Rattle.store_cells.specs.Cells.{cells_of}
-use Rattle.code.specs.Cells.{op_in, value_in, place_in, link_in, head_at, tail_at, op_at, place_at, link_at}
+use Rattle.code.specs.Cells.{op_in, place_in, link_in, head_at, tail_at, op_at, place_at, link_at}
 use Rattle.code.specs.Steps.{Head, a_datum, the_parameters, numbered, a_target}
 use Rattle.check_names.specs.Meanings.{Means}
-use Rattle.check_names.specs.Promises.{store_bytes}
 use Rattle.store_evaluation.specs.Answers.{call_slots}
-use Rattle.grammar.specs.Form.{Parses, DeclarationsAt, RoutineAt}
-use Rattle.faults.specs.First.{First}
-use Rattle.check_links.specs.Raw.{Ground, SameWords}
-use Rattle.check_links.specs.Resolved.{is_led}
+use Rattle.grammar.specs.Form.{Parses, RoutineAt}
+use Rattle.check_links.specs.Raw.{SameWords}
 use Rattle.check_links.proofs.Framing.{same-cells}
 use Rattle.check_links.proofs.Ops.{low-still}
-use Rattle.check_heads.specs.Trees.{word_of, head_for, heads_for}
+use Rattle.check_heads.specs.Trees.{head_for, heads_for}
 use Rattle.check_heads.proofs.DataToCome.{not_found}
 use Rattle.check_heads.proofs.RoutineNumbers.{word_at}
 use Rattle.check_sites.specs.Sites.{a_routine, filling, Filled}
@@ -38,18 +34,18 @@ use Rattle.check_leaving.specs.Answers as leaves
 use Rattle.check_parameters.specs.Answers.{DeclaresParameters}
 use Rattle.check_statements.specs.Answers.{SameValues}
 use Rattle.store_writing.specs.Chains.{Chain, Rise, starts_in}
-use Rattle.check_program.specs.Routines.{words_in_all, used_by_body, used_by_both, RawLines, RawOptional, RawRoutine}
+use Rattle.check_program.specs.Routines.{used_by_body, used_by_both, RawLines, RawOptional, RawRoutine}
 use Rattle.check_program.proofs.Orders.{lies}
 use Rattle.check_program.proofs.WalkStays.{lines-frame, optional-frame}
 use Rattle.check_program.proofs.DataChain.{DataStay, chain-kept, starts-kept}
 use Rattle.check_names.specs.declared.Scope.{Scope}
-use Rattle.check_names.specs.declared.Walked.{Walked}
-use Rattle.check_names.specs.declared.Walked.TheVariants.{Upto, Faulty}
-use Rattle.check_routines.specs.Answers.{ground_of, ModuleFilled, Spares, Begins, Goes}
-use Rattle.check_routines.specs.Parts.{Finishes, Inside, ground_in, ListsStand, ListsDone, SaysLists, Lists, ScopeStands, SaysScope, Scoped}
+use Rattle.check_routines.specs.Answers.{ground_of, Spares, Goes}
+use Rattle.layout.specs.declared.types.ValueType.{ValueType}
+use Rattle.check_routines.specs.Parts.{Finishes, ListsStand, ListsDone, SaysLists, Lists, ScopeStands}
 use Rattle.check_routines.proofs.ValueStore.{filled-same, routine-left}
 use Rattle.check_routines.proofs.ParametersAndData.{spelled-apart, keeps-parameters, keeps-data}
-use Rattle.check_routines.proofs.ScopeEntered.{Order, order, parameters-stand, parameters-faulty, Entered, entered, data-stand, data-faulty, Declared, declared, low₂, high₂, type₂, spares-from, inside, lists-stand}
+use Rattle.check_routines.proofs.ScopeEntered.{Order, order, Entered, entered, Declared, declared, low₂, high₂, spares-from, inside, lists-stand}
+use Rattle.std.specs.Prelude.{Option, Ok}
 
 -- ---- names that are none of the routine's own mean what they mean outside
 outer-meaning : (W : List Word) (m : Module) (N : Names) (u : Text) → is_among (map text_of N) u ≡ false → meaning ((filling W (a_routine m)).scopes_with N) u ≡ meaning (outer_of W (a_routine m)) u
@@ -57,9 +53,9 @@ unfolding meaning filling routine_filling look_in
 outer-meaning W m N u h =
     ap (look_in protected u) (not_found N u (look_in (module_scopes W m).globals u (look_in (module_scopes W m).routines u unknown)) h)
 
-module _ (text code values : List ℕ) (result h name : ℕ) (g : ScopeStands text code values result h name)
-    (code₁ values₁ : List ℕ) (close : ℕ) (own : Scope) (x₁ : DeclaresParameters code values code₁ values₁ (name + 2) (Upto close own)) (long₁ : length code₁ ≡ length code)
-    (code₂ values₂ : List ℕ) (at : ℕ) (taken : Scope) (x₂ : DeclaresRoutine code₁ values₁ code₂ values₂ (name + 1) h own.used (close + 1) (Upto at taken)) (long₂ : length code₂ ≡ length code) where
+module _ (text code values : List ℕ) (result : Option ValueType) (h name : ℕ) (g : ScopeStands text code values result h name)
+    (code₁ values₁ : List ℕ) (close : ℕ) (own : Scope) (x₁ : DeclaresParameters code values code₁ values₁ (name + 2) (Ok (close, own))) (long₁ : length code₁ ≡ length code)
+    (code₂ values₂ : List ℕ) (at : ℕ) (taken : Scope) (x₂ : DeclaresRoutine code₁ values₁ code₂ values₂ (name + 1) h own.used (close + 1) (Ok (at, taken))) (long₂ : length code₂ ≡ length code) where
   abbrev W : List Word
   W = g.begins.stands.W
 
@@ -106,7 +102,7 @@ module _ (text code values : List ℕ) (result h name : ℕ) (g : ScopeStands te
       let q : op_at (cells_of code₂) i ≡ sort_in W i = ap op_in (low (i * 2) (omega arith) (omega arith) (λ z. omega arith)) ∙ (g.begins.unread.loaded.words i a (omega arith)).sort in
       omega (arith, g.begins.stands.sorts i)
 
-  module _ (code₃ values₃ : List ℕ) (next : ℕ) (all : Scope) (x₃ : Lists text code₂ values₂ code₃ values₃ result taken.used h at (Upto next all)) where
+  module _ (code₃ values₃ : List ℕ) (next : ℕ) (all : Scope) (x₃ : Lists text code₂ values₂ code₃ values₃ result taken.used h at (Ok (next, all))) where
     l : ListsDone scope-lists code₃ values₃ next all.used
     unfolding SaysLists
     l = x₃.is scope-lists

@@ -1,15 +1,15 @@
 -- What the check of a routine asks of the two stores, and what it answers.
-use Rattle.std.specs.Prelude.{◌≡◌, false, List, [], ◌∷◌, ℕ, ◌+◌, ◌*◌, ◌<◌, ◌≤◌, length, get_or, drop}
+use Rattle.layout.specs.Broken.{as_fault}
+use Rattle.std.specs.Prelude.{◌≡◌, false, List, [], ◌∷◌, ℕ, ◌+◌, ◌*◌, ◌<◌, ◌≤◌, length, get_or, drop, Ok, Err}
 use Rattle.paper.specs.Sorts.{STRING}
 use Rattle.paper.specs.Words.{Word}
 use Rattle.paper.specs.Trees.{Routine, Module}
-use Rattle.paper.specs.Names.{Text, Names, nth, sort_in}
-use Rattle.paper.specs.Types.{Fault}
-use Rattle.paper.specs.Declarations.{Signature, data_texts, routine_names, module_filling, module_data, signatures}
+use Rattle.paper.specs.Names.{Text, nth, sort_in}
+use Rattle.paper.specs.Declarations.{data_texts, routine_names, module_filling, module_data, signatures}
 use Rattle.paper.specs.Checks.{routine_faults}
 use Rattle.store_cells.specs.Cells.{cells_of}
 use Rattle.code.specs.Cells.{head_at}
-use Rattle.code.specs.Steps.{a_target, Head, numbered}
+use Rattle.code.specs.Steps.{a_target, numbered}
 use Rattle.code.specs.Signatures.{Heads}
 use Rattle.check_names.specs.Promises.{store_bytes}
 use Rattle.grammar.specs.Form.{Parses, RoutineAt}
@@ -20,8 +20,7 @@ use Rattle.check_heads.specs.Trees.{head_for, heads_for, earlier_of}
 use Rattle.check_sites.specs.Sites.{the_module, Filled}
 use Rattle.check_around.specs.Around.{Quoted, offset_in, Unread}
 use Rattle.check_program.specs.Routines.{RawRoutine}
-use Rattle.check_names.specs.declared.Walked.{Walked}
-use Rattle.check_names.specs.declared.Walked.TheVariants.{Upto, Faulty}
+use Rattle.check_names.specs.Scopes.{Walked}
 
 -- ---- one routine of a module
 -- Routine k of the module is r; it stands from word h up to `to`. `earlier` are the texts of the names that were declared before its own.
@@ -91,8 +90,8 @@ pub record Walks {text code values : List ℕ} {k h : ℕ} (b : Begins text code
   pub goes : Goes b code' values' next
 
 unfoldable pub Says : {text code values : List ℕ} {k h : ℕ} (b : Begins text code values k h) (code' values' : List ℕ) → Walked → Type 0
-Says b code' values' (Upto next scope) = Walks b code' values' next
-Says {k = k} b code' values' (Faulty number word) = First (record { number = number; at = word }) (own_faults b.stands.W b.stands.m b.stands.earlier k b.stands.r)
+Says b code' values' (Ok (next, scope)) = Walks b code' values' next
+Says {k = k} b code' values' (Err broken) = First (as_fault broken) (own_faults b.stands.W b.stands.m b.stands.earlier k b.stands.r)
 
 -- Where a rule is broken nothing is promised of the stores.
 pub record Checks (text code values code' values' : List ℕ) (k h : ℕ) (r : Walked) : Type 0 where

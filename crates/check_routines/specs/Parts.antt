@@ -1,6 +1,10 @@
 -- The parts of checking a routine.
-use Rattle.std.specs.Prelude.{◌≡◌, Bool, false, List, [], ℕ, ◌+◌, ◌*◌, ◌/◌, ◌<◌, ◌≤◌, eqb, length, get_or, if◌then◌else◌}
-use Rattle.std.proofs.Math.Option.{Option, none, some}
+use Rattle.layout.specs.Broken.{as_fault}
+use Rattle.layout.specs.declared.types.ValueType.{ValueType}
+use Rattle.layout.specs.declared.types.ValueType.TheVariants as types
+use Rattle.std.specs.Prelude.{◌≡◌, Bool, false, List, [], ℕ, ◌+◌, ◌*◌, ◌<◌, ◌≤◌, eqb, length, get_or, if◌then◌else◌, Option, Some, None, Ok, Err}
+use Rattle.std.proofs.Math.Option as math
+use Rattle.std.proofs.Math.Option.{none, some}
 use Rattle.paper.specs.Sorts.{PROC, BOOL}
 use Rattle.paper.specs.Trees.{RoutineList, Routine, Module}
 use Rattle.paper.specs.Names.{sort_in}
@@ -9,7 +13,7 @@ use Rattle.paper.specs.Declarations.{routine_limit, crosses, result_asked, routi
 use Rattle.paper.specs.Checks.{WhichList, the_body, the_handler, the_undo, fors_in_optional, optional_faults, setting_in, routine_faults}
 use Rattle.paper.specs.Steps.{fors_of}
 use Rattle.store_cells.specs.Cells.{cells_of}
-use Rattle.code.specs.Cells.{op_in, value_in, op_at, place_at, link_at}
+use Rattle.code.specs.Cells.{value_in, op_at, place_at, link_at}
 use Rattle.code.specs.Steps.{numbered, the_parameters}
 use Rattle.code.specs.Signatures.{Heads}
 use Rattle.check_names.specs.Meanings as meanings
@@ -24,8 +28,7 @@ use Rattle.check_sites.specs.Sites.{a_routine, Filled}
 use Rattle.check_around.specs.declared.Setting.{Setting}
 use Rattle.check_around.specs.Around.{Unread, Apart, ResultIs, Tells}
 use Rattle.check_names.specs.declared.Scope.{Scope}
-use Rattle.check_names.specs.declared.Walked.{Walked}
-use Rattle.check_names.specs.declared.Walked.TheVariants.{Upto, Faulty}
+use Rattle.check_names.specs.Scopes.{Walked}
 use Rattle.check_names.specs.Scopes.{Grown, OfRoutine}
 use Rattle.check_statements.specs.Answers.{SameValues, Answer}
 use Rattle.check_parameters.specs.Answers.{DeclaresParameters}
@@ -38,13 +41,14 @@ use Rattle.check_routines.specs.Answers.{Stands, ground_of, Begins, Goes}
 unfoldable pub names_routine : (cell h : ℕ) → Bool
 names_routine cell h = if eqb (meanings.kind_in cell) meanings.a_routine then eqb (value_in cell) h else false
 
--- 0 for a PROC, 1 for a FUNC of num, 2 for one of bool
-unfoldable pub result_in : (C : List ℕ) → (h : ℕ) → ℕ
-result_in C h = if eqb (op_at C h) PROC then 0 else if eqb (op_at C (h + 1)) BOOL then 2 else 1
+-- what it gives back: none of a PROC
+unfoldable pub result_in : (C : List ℕ) → (h : ℕ) → Option ValueType
+result_in C h = if eqb (op_at C h) PROC then None else if eqb (op_at C (h + 1)) BOOL then Some types.Bool else Some types.Num
 
 -- "PROC name", "FUNC type name"
-unfoldable pub name_with : (result h : ℕ) → ℕ
-name_with result h = if eqb result 0 then h + 1 else h + 2
+unfoldable pub name_with : (result : Option ValueType) (h : ℕ) → ℕ
+name_with None h = h + 1
+name_with (Some type) h = h + 2
 
 -- The parenthesis before the parameters ends the data, and has how many FOR variables there are as its place; the routine's first word has the first word of its list as its place.
 pub record Finishes (before after : List ℕ) (h opens at fors : ℕ) : Type 0 where
@@ -98,7 +102,7 @@ pub record BehindStands (text code values : List ℕ) (setting : Setting) (used 
   pub h : ℕ
   pub inside : Inside text values k h
   pub which : WhichList
-  pub o : Option RoutineList
+  pub o : math.Option RoutineList
   pub to : ℕ
   pub form : ListBehindAt (sort_in inside.stands.W) (Parses (sort_in inside.stands.W)) leader o e to
   pub within : to ≤ inside.stands.form.end
@@ -109,7 +113,7 @@ pub record BehindStands (text code values : List ℕ) (setting : Setting) (used 
   pub room : used + fors_in_optional o ≤ words_in_all (ground_in inside) inside.stands.m inside.stands.r
 
 -- its statements, without its end
-unfoldable pub LinesBehind : (g : Ground) (C : List ℕ) (m : Module) → Routine → Option RoutineList → (used e : ℕ) → Type 0
+unfoldable pub LinesBehind : (g : Ground) (C : List ℕ) (m : Module) → Routine → math.Option RoutineList → (used e : ℕ) → Type 0
 LinesBehind g C m r none used e = Unit {0}
 LinesBehind g C m r (some l) used e = RawList (ground_for g m r) (words_in_all g m r) C l.statements (routine_scopes g.W m r) used (e + 1) l.closes
 
@@ -124,7 +128,7 @@ pub record Behind (text code values code' values' : List ℕ) (setting : Setting
 
 -- ---- all lists
 -- They begin at the word `at`, behind the data.
-pub record ListsStand (text code values : List ℕ) (result data-words h at : ℕ) : Type 0 where
+pub record ListsStand (text code values : List ℕ) (result : Option ValueType) (data-words h at : ℕ) : Type 0 where
   pub k : ℕ
   pub inside : Inside text values k h
   pub begins : at ≡ inside.stands.form.begin
@@ -132,7 +136,7 @@ pub record ListsStand (text code values : List ℕ) (result data-words h at : �
   pub result-is : ResultIs (result_asked inside.stands.W k inside.stands.r.result) result
   pub used-is : data-words ≡ data_slots inside
 
-pub record ListsDone {text code values : List ℕ} {result data-words h at : ℕ} (s : ListsStand text code values result data-words h at) (code' values' : List ℕ) (next used : ℕ) : Type 0 where
+pub record ListsDone {text code values : List ℕ} {result : Option ValueType} {data-words h at : ℕ} (s : ListsStand text code values result data-words h at) (code' values' : List ℕ) (next used : ℕ) : Type 0 where
   pub none : faults_in s.inside ≡ []
   pub next-is : next ≡ s.inside.stands.to
   pub used-is : used ≡ data-words + fors_of s.inside.stands.W s.inside.stands.r
@@ -147,54 +151,54 @@ pub record ListsDone {text code values : List ℕ} {result data-words h at : ℕ
   pub above : (i : ℕ) → s.inside.stands.to * 2 ≤ i → get_or (cells_of code') i 0 ≡ get_or (cells_of code) i 0
   pub same : SameValues values values'
 
-unfoldable pub SaysLists : {text code values : List ℕ} {result data-words h at : ℕ} (s : ListsStand text code values result data-words h at) (code' values' : List ℕ) → Walked → Type 0
-SaysLists s code' values' (Upto next scope) = ListsDone s code' values' next scope.used
-SaysLists s code' values' (Faulty number word) = First (record { number = number; at = word }) (faults_in s.inside)
+unfoldable pub SaysLists : {text code values : List ℕ} {result : Option ValueType} {data-words h at : ℕ} (s : ListsStand text code values result data-words h at) (code' values' : List ℕ) → Walked → Type 0
+SaysLists s code' values' (Ok (next, scope)) = ListsDone s code' values' next scope.used
+SaysLists s code' values' (Err broken) = First (as_fault broken) (faults_in s.inside)
 
-pub record Lists (text code values code' values' : List ℕ) (result data-words h at : ℕ) (r : Walked) : Type 0 where
+pub record Lists (text code values code' values' : List ℕ) (result : Option ValueType) (data-words h at : ℕ) (r : Walked) : Type 0 where
   pub is : (s : ListsStand text code values result data-words h at) → SaysLists s code' values' r
 
 -- ---- all behind the name
-pub record ScopeStands (text code values : List ℕ) (result h name : ℕ) : Type 0 where
+pub record ScopeStands (text code values : List ℕ) (result : Option ValueType) (h name : ℕ) : Type 0 where
   pub k : ℕ
   pub begins : Begins text code values k h
   pub name-is : name ≡ begins.stands.r.name
   pub result-is : ResultIs (result_asked begins.stands.W k begins.stands.r.result) result
   pub fits : crosses routine_limit k 1 ≡ false
 
-unfoldable pub SaysScope : {text code values : List ℕ} {result h name : ℕ} (s : ScopeStands text code values result h name) (code' values' : List ℕ) → Walked → Type 0
-SaysScope s code' values' (Upto next scope) = Goes s.begins code' values' next
-SaysScope s code' values' (Faulty number word) =
-    First (record { number = number; at = word })
+unfoldable pub SaysScope : {text code values : List ℕ} {result : Option ValueType} {h name : ℕ} (s : ScopeStands text code values result h name) (code' values' : List ℕ) → Walked → Type 0
+SaysScope s code' values' (Ok (next, scope)) = Goes s.begins code' values' next
+SaysScope s code' values' (Err broken) =
+    First (as_fault broken)
     (routine_faults s.begins.stands.W s.begins.stands.m (signatures s.begins.stands.W s.begins.stands.m 0 s.begins.stands.m.routines) s.k s.begins.stands.r)
 
-pub record Scoped (text code values code' values' : List ℕ) (result h name : ℕ) (r : Walked) : Type 0 where
+pub record Scoped (text code values code' values' : List ℕ) (result : Option ValueType) (h name : ℕ) (r : Walked) : Type 0 where
   pub is : (s : ScopeStands text code values result h name) → SaysScope s code' values' r
 
 -- ---- the same from a word behind the name on
 -- Its scope, entered from the outer one, has its parameters, which stand up to the parenthesis at `close`.
-pub record ParametersDeclared (text code values : List ℕ) (result : ℕ) (outer own : Scope) (h name close : ℕ) : Type 0 where
+pub record ParametersDeclared (text code values : List ℕ) (result : Option ValueType) (outer own : Scope) (h name close : ℕ) : Type 0 where
   pub code₀ : List ℕ
   pub values₀ : List ℕ
   pub stands : ScopeStands text code₀ values₀ result h name
   pub entered : OfRoutine outer (name + 2) h own
   pub names-are : own.names ≡ own.used
-  pub declares : DeclaresParameters code₀ values₀ code values (name + 2) (Upto close own)
+  pub declares : DeclaresParameters code₀ values₀ code values (name + 2) (Ok (close, own))
   pub long : length code ≡ length code₀
 
-pub record ParametersPassed (text code values code' values' : List ℕ) (result : ℕ) (outer own : Scope) (h name close : ℕ) (r : Walked) : Type 0 where
+pub record ParametersPassed (text code values code' values' : List ℕ) (result : Option ValueType) (outer own : Scope) (h name close : ℕ) (r : Walked) : Type 0 where
   pub is : (s : ParametersDeclared text code values result outer own h name close) → SaysScope s.stands code' values' r
 
 -- It has its data too, up to the word `at`.
-pub record DataStand (text code values : List ℕ) (result : ℕ) (outer taken : Scope) (h name at : ℕ) : Type 0 where
+pub record DataStand (text code values : List ℕ) (result : Option ValueType) (outer taken : Scope) (h name at : ℕ) : Type 0 where
   pub close : ℕ
   pub code₁ : List ℕ
   pub values₁ : List ℕ
   pub opened : Scope
   pub own : ParametersDeclared text code₁ values₁ result outer opened h name close
   pub grown : Grown opened taken
-  pub declares : DeclaresRoutine code₁ values₁ code values (name + 1) h opened.used (close + 1) (Upto at taken)
+  pub declares : DeclaresRoutine code₁ values₁ code values (name + 1) h opened.used (close + 1) (Ok (at, taken))
   pub long : length code ≡ length code₁
 
-pub record DataPassed (text code values code' values' : List ℕ) (result : ℕ) (outer taken : Scope) (h name at : ℕ) (r : Walked) : Type 0 where
+pub record DataPassed (text code values code' values' : List ℕ) (result : Option ValueType) (outer taken : Scope) (h name at : ℕ) (r : Walked) : Type 0 where
   pub is : (s : DataStand text code values result outer taken h name at) → SaysScope s.own.stands code' values' r

@@ -1,5 +1,6 @@
 // The check of a routine: its name, parameters, data, list, ERROR list and UNDO list. What a run has to know of it is written over its words in the code store; when its scope is left the table
 // of meanings says again what names mean in the module.
+// Both stores are lent one by one: check_statements says why.
 #![tactic(auto)]
 
 ghost use Rattle.paper.specs.Words.{word_limit};
@@ -12,12 +13,14 @@ ghost use Rattle.check_links.specs.Raw.{end_of};
 ghost use Rattle.store_writing.specs.Promises.{Linked};
 ghost use Rattle.check_names.specs.Scopes.{EachHasWord, Stays, BackTo};
 ghost use Rattle.check_routines.specs.Answers.{Begins, Checks};
-ghost use Rattle.check_routines.specs.Parts.{names_routine, result_in, name_with, Finishes, first_behind, Closes, BehindStands, Behind, ListsStand, Lists, ScopeStands, Scoped, ParametersDeclared, ParametersPassed, DataStand, DataPassed};
+ghost use Rattle.check_routines.specs.Parts.{names_routine, result_in, name_with, Finishes, first_behind, Closes, BehindStands, Behind, ListsStand, Lists, ScopeStands, Scoped};
 
 use check_around::Setting;
+use check_around::lists::WhichList;
 use check_names::{Scope, Walked};
-use layout::types::Type;
-use layout::{kinds, limits, ops, rules, types};
+use layout::rules::{Breach, Rule};
+use layout::types::ValueType;
+use layout::{kinds, limits, ops};
 use store_writing::{set_head, sort};
 
 // the number that the first routine too many has
@@ -29,34 +32,33 @@ const ROUTINES: u32 = limits::ROUTINES as u32;
 fn names_routine(m: u32, h: usize) -> bool
     ensures { result ≡ names_routine m h }
 {
-    if check_names::kind_of(m) != kinds::ROUTINE {
-        return false;
-    }
-    check_names::value_of(m) as usize == h
+    check_names::kind_of(m) == kinds::ROUTINE && check_names::value_of(m) as usize == h
 }
 
-// The type of what it gives back.
-fn result_of(code: &[u8], h: usize) -> Type
+// The type of what it gives back: none of a PROC.
+#[tactic(auto, unfolding(crate::specs::Parts::result_in))]
+fn result_of(code: &[u8], h: usize) -> Option<ValueType>
     requires { h * 8 + 16 ≤ length code.now }
     ensures { result ≡ result_in (cells_of code.now) h }
 {
     if sort(code, h) == text_sorts::PROC {
-        return types::NONE;
+        return None;
     }
     if sort(code, h + 1) == text_sorts::BOOL {
-        return types::BOOL;
+        return Some(ValueType::Bool);
     }
-    types::NUM
+    Some(ValueType::Num)
 }
 
-fn name_of(res: Type, h: usize) -> usize
+#[tactic(auto, unfolding(crate::specs::Parts::name_with))]
+fn name_of(res: Option<ValueType>, h: usize) -> usize
     requires { h < word_limit }
     ensures { result ≡ name_with res h }
 {
-    if res == types::NONE {
-        return h + 1;
+    match res {
+        None => h + 1,
+        Some(_) => h + 2,
     }
-    h + 2
 }
 
 // ---- words
@@ -82,7 +84,7 @@ fn end_list(code: &mut [u8], function: bool, e: usize)
     }
 }
 
-// Where the list begins that stands behind the word e and is closed by z; 0 where there is none.
+// Where the list begins that stands behind the word e and is closed by z; 0 where there is none, as the cells have it (Closes).
 fn first_behind(e: usize, z: usize) -> usize
     requires { e < word_limit }
     ensures { result ≡ first_behind e z }
@@ -124,7 +126,7 @@ fn list_behind(
     ensures { Behind text.now code.old values.old code.new values.new setting scope.used leader e result × Stays scope result }
 {
     if sort(code, e) != leader {
-        return Walked::Upto(e, scope);
+        return Ok((e, scope));
     }
     check_statements::list(text, code, values, setting, scope, e + 1)
 }
@@ -134,7 +136,7 @@ fn lists(
     text: &[u8],
     code: &mut [u8],
     values: &mut [u8],
-    res: Type,
+    res: Option<ValueType>,
     scope: Scope,
     h: usize,
     at: usize,
@@ -144,86 +146,31 @@ fn lists(
 {
     let setting = Setting {
         result: res,
-        list: check_around::lists::BODY,
+        list: WhichList::Body,
     };
-    let r = check_statements::list(text, code, values, setting, scope, at);
-    let Walked::Upto(e, body) = r else {
-        return r;
-    };
+    let (e, body) = check_statements::list(text, code, values, setting, scope, at)?;
     let setting = Setting {
         result: res,
-        list: check_around::lists::HANDLER,
+        list: WhichList::Handler,
     };
-    let r = list_behind(text, code, values, setting, body, text_sorts::ERROR, e);
-    let Walked::Upto(z, both) = r else {
-        return r;
-    };
+    let (z, both) = list_behind(text, code, values, setting, body, text_sorts::ERROR, e)?;
     let setting = Setting {
         result: res,
-        list: check_around::lists::UNDO,
+        list: WhichList::Undo,
     };
-    let r = list_behind(text, code, values, setting, both, text_sorts::UNDO, z);
-    let Walked::Upto(w, all) = r else {
-        return r;
-    };
-    close(code, res != types::NONE, h, e, z, w);
-    Walked::Upto(w + 1, all)
+    let (w, all) = list_behind(text, code, values, setting, both, text_sorts::UNDO, z)?;
+    close(code, res.is_some(), h, e, z, w);
+    Ok((w + 1, all))
 }
 
 // ---- a routine
 
-// Behind its data, with which its scope is `taken`: its lists, from the word `at` on. Then it is left to the scope around it.
-fn behind_data(
-    text: &[u8],
-    code: &mut [u8],
-    values: &mut [u8],
-    res: Type,
-    outer: Scope,
-    taken: Scope,
-    h: usize,
-    name: usize,
-    at: usize,
-) -> Walked
-    requires { DataStand text.now code.old values.old res outer taken h name at × (outer.loops ≡ 0) }
-    ensures { DataPassed text.now code.old values.old code.new values.new res outer taken h name at result × BackTo outer result }
-{
-    let l = lists(text, code, values, res, taken, h, at);
-    let Walked::Upto(next, all) = l else {
-        return l;
-    };
-    finish(code, h, name + 1, at, all.used - taken.used);
-    let left = check_leaving::leave_routine(all, outer, code, values);
-    Walked::Upto(next, left)
-}
-
-// Behind its parameters, which end at the parenthesis `close`, and with which its scope is `own`.
-fn behind_parameters(
-    text: &[u8],
-    code: &mut [u8],
-    values: &mut [u8],
-    res: Type,
-    outer: Scope,
-    own: Scope,
-    h: usize,
-    name: usize,
-    close: usize,
-) -> Walked
-    requires { ParametersDeclared text.now code.old values.old res outer own h name close × (outer.loops ≡ 0) }
-    ensures { ParametersPassed text.now code.old values.old code.new values.new res outer own h name close result × BackTo outer result }
-{
-    let d = check_declarations::routine_data(own, code, values, name + 1, close + 1);
-    let Walked::Upto(at, data) = d else {
-        return d;
-    };
-    behind_data(text, code, values, res, outer, data, h, name, at)
-}
-
-// All that stands behind its name: its scope is entered from the outer one.
+// All that stands behind its name: its scope is entered from the outer one, to which it is left behind its lists.
 fn scope(
     text: &[u8],
     code: &mut [u8],
     values: &mut [u8],
-    res: Type,
+    res: Option<ValueType>,
     outer: Scope,
     h: usize,
     name: usize,
@@ -232,11 +179,12 @@ fn scope(
     ensures { Scoped text.now code.old values.old code.new values.new res h name result × BackTo outer result }
 {
     let entered = outer.enter_routine(name + 2, h);
-    let p = check_parameters::parameters(entered, code, values);
-    let Walked::Upto(close, own) = p else {
-        return p;
-    };
-    behind_parameters(text, code, values, res, outer, own, h, name, close)
+    let (close, own) = check_parameters::parameters(entered, code, values)?;
+    let (at, taken) = check_declarations::routine_data(own, code, values, name + 1, close + 1)?;
+    let (next, all) = lists(text, code, values, res, taken, h, at)?;
+    finish(code, h, name + 1, at, all.used - taken.used);
+    let left = check_leaving::leave_routine(all, outer, code, values);
+    Ok((next, left))
 }
 
 // Routine k, which begins at the word h, in the scope of a module: no loop is around it.
@@ -255,10 +203,16 @@ pub fn routine(
     let name = name_of(result, h);
     let m = check_names::meaning(code, values, name);
     if !names_routine(m, h) {
-        return Walked::Faulty(rules::TAKEN_NAME, name);
+        return Err(Breach {
+            rule: Rule::TakenName,
+            word: name,
+        });
     }
     if k == ROUTINES {
-        return Walked::Faulty(rules::TOO_MANY, name);
+        return Err(Breach {
+            rule: Rule::TooMany,
+            word: name,
+        });
     }
     scope(text, code, values, result, outer, h, name)
 }

@@ -7,7 +7,7 @@ use native.Mathlib.Omega.{arith}
 use lib.Dec.{eqb}
 use lib.ListN.{length}
 use mir.Syntax.{w32, w64}
-use mir.Val.{Fits}
+use mir.Val.{Fits, bool_byte}
 use borrow.Author.Tests.{eqb-true, eqb-false}
 use Rattle.laws.proofs.Tests.{test, by-same, false-true}
 use Rattle.paper.specs.Sorts.{NAME, comma, semicolon, open_paren, close_paren, open_brace, close_brace}
@@ -21,13 +21,23 @@ use Rattle.climb.proofs.Climb.{got-no, went, after, chain-on, chain-stop}
 use Rattle.climb.proofs.Operands.{got_same, op-paren, op-element, op-name, op-literal, op-none}
 use Rattle.grammar.specs.Form.{Parses, ExprAt, SeparatedAt, last_one, one_more}
 use Rattle.grammar.proofs.Inversions.{closed_none, closed_some}
-use Rattle.check_simple.specs.Parts.{Commas, ArgumentsStand, Counts, Counted}
+use Rattle.check_simple.specs.Parts.{ArgumentsStand, Counts, Counted}
 
-pub comma-yes : (s : ℕ) → s ≡ comma → Commas s 1
-comma-yes s e = record { yes = λ _. refl; no = λ d. absurd (d e); few = omega arith }
+-- a comma counts
+pub record Commas (s r : ℕ) : Type 0 where
+  pub yes : s ≡ comma → r ≡ 1
+  pub no : (s ≡ comma → ⊥) → r ≡ 0
+  pub few : r ≤ 1
 
-pub comma-no : (s : ℕ) → (s ≡ comma → ⊥) → Commas s 0
-comma-no s d = record { yes = λ e. absurd (d e); no = λ _. refl; few = omega arith }
+pub comma-counts : (s r : ℕ) → r ≡ bool_byte (eqb s comma) → Commas s r
+comma-counts s r e =
+    test (eqb s comma)
+    (λ t.
+    let one : r ≡ 1 = e ∙ ap bool_byte t in
+    record { yes = λ _. one; no = λ d. absurd (d (eqb-true s comma t)); few = omega (arith, one) })
+    (λ t.
+    let none : r ≡ 0 = e ∙ ap bool_byte t in
+    record { yes = λ q. absurd (eqb-false s comma t q); no = λ _. none; few = omega (arith, none) })
 
 -- ---- words up to a semicolon
 -- From i on there are n commas before the semicolon at `end`, and no other semicolon.

@@ -1,6 +1,6 @@
 -- Arguments one after another, each against its parameter.
 use mathlib.Core.Path.{◌≡◌, refl, sym, ap, ap₂, subst, ◌∙◌}
-use mathlib.Core.Bool.{Bool, false}
+use mathlib.Core.Bool.{false}
 use mathlib.Core.List.{List, [], ◌∷◌, ◌++◌, map, append_assoc}
 use Prim.Native.Nat.{ℕ, suc, ◌+◌, ◌*◌, ◌<◌, ◌≤◌}
 use native.Mathlib.Omega.{arith}
@@ -22,8 +22,10 @@ use Rattle.code.proofs.Spanning.{span-grows}
 use Rattle.grammar.specs.Form.{Parses, ExprAt, SeparatedAt}
 use Rattle.grammar.proofs.Places.{exprs-grow}
 use Rattle.grammar.proofs.Inversions.{FirstOf, separated_first}
-use Rattle.check_expressions.specs.declared.Judged.{Judged}
-use Rattle.check_expressions.specs.declared.Judged.TheVariants.{Typed, Faulty}
+use Rattle.check_expressions.specs.Judgements.{Judged}
+use Rattle.std.specs.Prelude.{Ok, Err}
+use Rattle.layout.specs.Broken.{as_fault}
+use Rattle.layout.specs.declared.rules.Breach.{Breach}
 use Rattle.check_expressions.specs.Known.{Loaded}
 use Rattle.store_writing.specs.Promises.{Kept, Linked}
 use Rattle.check_expressions.specs.Answers as expressions
@@ -39,7 +41,7 @@ use Rattle.check_links.specs.Raw.{Quiet}
 use Rattle.check_around.specs.Around.{Around, Unread, Apart}
 use Rattle.check_simple.specs.Parts.{passed, Passed, Reads, reads-one, reads_more, Rest, More, MoreJudged}
 use Rattle.check_simple.proofs.Expressions.{no-operator, level-comma, quiet-below, quiet-above, Told, asks, told, told-first, answer-first, answer-fine}
-use Rattle.layout.specs.Types.{no_type}
+use Rattle.layout.specs.declared.types.ValueType.{ValueType}
 
 -- ---- words that are not changed
 pub link-below : {before after : List ℕ} {x y : ℕ} → Kept before after x y → (i : ℕ) → i < x → link_at (cells_of after) i ≡ link_at (cells_of before) i
@@ -114,17 +116,17 @@ module _ {text values : List ℕ} (around : Around text values) (now : List ℕ)
     unfolding term_of
     passed-term = refl
 
-    pub one_told : (b : ℕ) (next : ℕ) → r ≡ Typed b next → Told around.known (of_type around.known.W (type_at (cells_of now) p) around.known.S e) now mid e at n next
+    pub one_told : (b : ValueType) (next : ℕ) → r ≡ Ok (b, next) → Told around.known (of_type around.known.W (type_at (cells_of now) p) around.known.S e) now mid e at n next
     unfolding one-asks asks
     one_told b next q =
         told around.known around.sorts (suc nestings) at e n one load no (omega arith) mid (type_at (cells_of now) p) (passed (type_at (cells_of now) p) (first e) (judge around.known.W false around.known.S e)) passed-faults passed-term r
         (h.is one-asks) b next q
 
-    pub one-first : (number word : ℕ) → r ≡ Faulty number word → First (record { number = number; at = word }) (of_type around.known.W (type_at (cells_of now) p) around.known.S e)
+    pub one-first : (broken : Breach) → r ≡ Err broken → First (as_fault broken) (of_type around.known.W (type_at (cells_of now) p) around.known.S e)
     unfolding one-asks asks
-    one-first number word q =
+    one-first broken q =
         told-first around.known around.sorts (suc nestings) at e n one load no (omega arith) mid (type_at (cells_of now) p) (passed (type_at (cells_of now) p) (first e) (judge around.known.W false around.known.S e)) passed-faults passed-term r
-        (h.is one-asks) number word q
+        (h.is one-asks) broken q
 
 -- the faults of several, by those of the first
 module _ {text values : List ℕ} (around : Around text values) (t : DataType) (ts : List DataType) (e : Expr) (rest : List Expr) (at n z : ℕ)
@@ -217,13 +219,13 @@ module _ {text values : List ℕ} (around : Around text values) (a b₀ z : ℕ)
       pub next-long : length mid ≡ length now
       next-long = one-long around now (q + 3) (end + 1) next.a next.n next.one next-load next-no mid j h
 
-      pub next-faulty : (number word : ℕ) → j ≡ Faulty number word → First (record { number = number; at = word }) (argument_faults around.known.W around.known.S ts rest)
-      next-faulty number word e =
-          subst (First (record { number = number; at = word })) (sym faults-are)
-          (one-is-first around (type_at (cells_of now) (q + 3)) left next.a next.rest (end + 1) next.n z next.one next.more next.done (record { number = number; at = word })
-          (one-first around now (q + 3) (end + 1) next.a next.n next.one next-load next-no mid j h number word e))
+      pub next-faulty : (broken : Breach) → j ≡ Err broken → First (as_fault broken) (argument_faults around.known.W around.known.S ts rest)
+      next-faulty broken e =
+          subst (First (as_fault broken)) (sym faults-are)
+          (one-is-first around (type_at (cells_of now) (q + 3)) left next.a next.rest (end + 1) next.n z next.one next.more next.done (as_fault broken)
+          (one-first around now (q + 3) (end + 1) next.a next.n next.one next-load next-no mid j h broken e))
 
-      module _ (b : ℕ) (n : ℕ) (e : j ≡ Typed b n) where
+      module _ (b : ValueType) (n : ℕ) (e : j ≡ Ok (b, n)) where
         next-told : Told around.known (of_type around.known.W (type_at (cells_of now) (q + 3)) around.known.S next.a) now mid next.a (end + 1) next.n n
         next-told = one_told around now (q + 3) (end + 1) next.a next.n next.one next-load next-no mid j h b n e
 
@@ -304,7 +306,7 @@ module _ (code values now : List ℕ) (p b q end : ℕ) (run : Runs code values 
     here-sort : (g : More code values p b) → s ≡ sort_in g.around.known.W end
     here-sort g = es ∙ rest-sort g.around g.a g.b₀ g.z now q end _ _ _ (run.is g).is
 
-    pub run-done : (s ≡ comma → ⊥) → MoreJudged code values now p b (Typed no_type end)
+    pub run-done : (s ≡ comma → ⊥) → MoreJudged code values now p b (Ok end)
     unfolding argument_faults
     run-done d = record {
       is = λ g.
@@ -312,7 +314,7 @@ module _ (code values now : List ℕ) (p b q end : ℕ) (run : Runs code values 
           let f = a.is.done (λ c. d (here-sort g ∙ c)) in
           let terms = term_of g.around.known.W g.around.known.S in
           let all : a.us ≡ g.us ++ map terms g.rest = sym (append-none a.us) ∙ ap (λ (l : List Expr). a.us ++ map terms l) (sym f.0) ∙ a.total in
-          answer-fine _ code now b g.z _ no_type end (record {
+          answer-fine _ code now b g.z _ end (record {
             none = a.faults ∙ ap (argument_faults g.around.known.W g.around.known.S a.ts) f.0;
             next-is = sym f.1;
             written = record {
@@ -335,15 +337,15 @@ module _ (code values now : List ℕ) (p b q end : ℕ) (run : Runs code values 
         pub run-long-then : More code values p b → length mid ≡ length code
         run-long-then g = next-long g.around g.a g.b₀ g.z now q end _ _ _ (run.is g).is (comma-here g) mid j h ∙ run_long g
 
-        pub run-faulty : (number word : ℕ) → j ≡ Faulty number word → MoreJudged code values mid p b j
-        run-faulty number word e = record {
+        pub run-faulty : (broken : Breach) → j ≡ Err broken → MoreJudged code values mid p b (Err broken)
+        run-faulty broken e = record {
           is = λ g.
-              answer-first _ code mid b g.z _ j number word e (run-long-then g)
-              (subst (First (record { number = number; at = word })) (sym (run.is g).faults)
-              (next-faulty g.around g.a g.b₀ g.z now q end _ _ _ (run.is g).is (comma-here g) mid j h number word e));
+              answer-first _ code mid b g.z _ (Err broken) broken refl (run-long-then g)
+              (subst (First (as_fault broken)) (sym (run.is g).faults)
+              (next-faulty g.around g.a g.b₀ g.z now q end _ _ _ (run.is g).is (comma-here g) mid j h broken e));
         }
 
-        module _ (bool : ℕ) (n : ℕ) (e : j ≡ Typed bool n) where
+        module _ (bool : ValueType) (n : ℕ) (e : j ≡ Ok (bool, n)) where
           pub run_end : More code values p b → (n < word_limit) × (end < n) × (end * 8 + 8 ≤ length mid)
           run_end g =
               let x = next-end g.around g.a g.b₀ g.z now q end _ _ _ (run.is g).is (comma-here g) mid j h bool n e in

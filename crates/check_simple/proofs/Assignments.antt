@@ -1,8 +1,8 @@
 -- Assignments of a value.
-use mathlib.Core.Path.{◌≡◌, sym, ap, ap₂, ◌∙◌}
+use mathlib.Core.Path.{◌≡◌, refl, sym, ap, ap₂, ◌∙◌}
 use mathlib.Core.Bool.{Bool, false}
 use mathlib.Core.List.{List}
-use mathlib.Core.Option.{Option, none, some}
+use mathlib.Core.Option.{Option, some}
 use Prim.Native.Nat.{ℕ, suc, ◌+◌, ◌*◌, ◌<◌, ◌≤◌}
 use native.Mathlib.Omega.{arith}
 use lib.ListN.{length}
@@ -23,8 +23,10 @@ use Rattle.code.specs.Steps.{a_target, Head, scalar_in, element_in, target_in}
 use Rattle.code.proofs.Options.{goes}
 use Rattle.code.proofs.Spanning.{span-grows}
 use Rattle.check_names.specs.Meanings.{ref_with}
-use Rattle.check_expressions.specs.declared.Judged.{Judged}
-use Rattle.check_expressions.specs.declared.Judged.TheVariants.{Typed, Faulty}
+use Rattle.check_expressions.specs.Judgements.{Judged}
+use Rattle.std.specs.Prelude.{Ok, Err}
+use Rattle.layout.specs.Broken.{as_fault}
+use Rattle.layout.specs.declared.rules.Breach.{Breach}
 use Rattle.check_expressions.specs.Known.{Loaded, InRoom}
 use Rattle.store_writing.specs.Promises.{Kept, Linked}
 use Rattle.check_expressions.specs.Answers.{OfType}
@@ -41,6 +43,7 @@ use Rattle.check_simple.specs.Parts.{Aims, scalar-aims, element-aims, ValueSide,
 use Rattle.check_simple.proofs.Expressions.{no-operator, level-semicolon, quiet-below, quiet-above, Told, asks, typed-told, typed-first, typed_long, answer-first, answer-fine, raw-term, raw-term-after}
 use Rattle.check_simple.proofs.Arguments.{link-below}
 use Rattle.paper.specs.Words.{word_limit}
+use Rattle.layout.specs.declared.types.ValueType.{ValueType}
 
 pub link-above : {before after : List ℕ} {x y : ℕ} → Kept before after x y → (i : ℕ) → y ≤ i → link_at (cells_of after) i ≡ link_at (cells_of before) i
 link-above k i h = ap link_in (cell-above k (i * 2 + 1) (omega arith))
@@ -124,7 +127,7 @@ raw-target a C ops t i b k v o e s q = record {
 }
 
 -- ---- target := e
-module _ (code values : List ℕ) (wants : ℕ) (i b : ℕ) (g : ValueSide code values wants i b) where
+module _ (code values : List ℕ) (wants : ValueType) (i b : ℕ) (g : ValueSide code values wants i b) where
   value-load : Loaded g.around.known.W code (b + 1) g.to
   value-load = loaded-part g.around.known.W code b g.to (b + 1) g.to g.unread.loaded (omega arith) (omega arith)
 
@@ -141,11 +144,11 @@ module _ (code values : List ℕ) (wants : ℕ) (i b : ℕ) (g : ValueSide code 
     value-long : length mid ≡ length code
     value-long = typed_long g.around.known g.around.sorts (suc nestings) (b + 1) g.e g.to g.value value-load (no-operator _ _ g.ends level-semicolon) (omega arith) mid wants g.type g.wants_is r o
 
-    value-first : (number word : ℕ) → r ≡ Faulty number word → First (record { number = number; at = word }) (of_type g.around.known.W g.type g.around.known.S g.e)
-    value-first number word e =
-        typed-first g.around.known g.around.sorts (suc nestings) (b + 1) g.e g.to g.value value-load (no-operator _ _ g.ends level-semicolon) (omega arith) mid wants g.type g.wants_is r o number word e
+    value-first : (broken : Breach) → r ≡ Err broken → First (as_fault broken) (of_type g.around.known.W g.type g.around.known.S g.e)
+    value-first broken e =
+        typed-first g.around.known g.around.sorts (suc nestings) (b + 1) g.e g.to g.value value-load (no-operator _ _ g.ends level-semicolon) (omega arith) mid wants g.type g.wants_is r o broken e
 
-    module _ (bool : ℕ) (end : ℕ) (e : r ≡ Typed bool end) where
+    module _ (bool : ValueType) (end : ℕ) (e : r ≡ Ok (bool, end)) where
       value-told : Told g.around.known (of_type g.around.known.W g.type g.around.known.S g.e) code mid g.e (b + 1) g.to end
       value-told = typed-told g.around.known g.around.sorts (suc nestings) (b + 1) g.e g.to g.value value-load (no-operator _ _ g.ends level-semicolon) (omega arith) mid wants g.type g.wants_is r o bool end e
 
@@ -199,12 +202,12 @@ module _ (code values : List ℕ) (wants : ℕ) (i b : ℕ) (g : ValueSide code 
               kept = kept_on (kept-wider value-kept i (g.to + 1) (omega (arith, g.before)) (omega arith)) (kept-wider x.kept i (g.to + 1) (omega arith) (omega (arith, g.before, value_on)));
             }
 
-module _ (code values : List ℕ) (wants : ℕ) (i b : ℕ) (mid : List ℕ) (r : Judged) (o : OfType code values mid false wants (b + 1) r) where
-  pub assigned-faulty : (number word : ℕ) → r ≡ Faulty number word → ValueAssigned code values mid wants i b r
-  assigned-faulty number word e = record {
-    is = λ g. answer-first _ code mid i (g.to + 1) _ r number word e (value-long code values wants i b g mid r o) (value-first code values wants i b g mid r o number word e);
+module _ (code values : List ℕ) (wants : ValueType) (i b : ℕ) (mid : List ℕ) (r : Judged) (o : OfType code values mid false wants (b + 1) r) where
+  pub assigned-faulty : (broken : Breach) → r ≡ Err broken → ValueAssigned code values mid wants i b (Err broken)
+  assigned-faulty broken e = record {
+    is = λ g. answer-first _ code mid i (g.to + 1) _ (Err broken) broken refl (value-long code values wants i b g mid r o) (value-first code values wants i b g mid r o broken e);
   }
 
-  pub assigned-typed : (bool : ℕ) (end : ℕ) → r ≡ Typed bool end → (one : List ℕ) → Linked mid one b (op_at (cells_of mid) b) (value_at (cells_of mid) b) end → (after : List ℕ)
-      → Linked one after i (op_at (cells_of one) i) (value_at (cells_of one) i) (end + 1) → ValueAssigned code values after wants i b (Typed bool (end + 1))
-  assigned-typed bool end e one l after x = record { is = λ g. answer-fine _ code after i (g.to + 1) _ bool (end + 1) (value-fine code values wants i b g mid r o bool end e one l after x) }
+  pub assigned-typed : (bool : ValueType) (end : ℕ) → r ≡ Ok (bool, end) → (one : List ℕ) → Linked mid one b (op_at (cells_of mid) b) (value_at (cells_of mid) b) end → (after : List ℕ)
+      → Linked one after i (op_at (cells_of one) i) (value_at (cells_of one) i) (end + 1) → ValueAssigned code values after wants i b (Ok (end + 1))
+  assigned-typed bool end e one l after x = record { is = λ g. answer-fine _ code after i (g.to + 1) _ (end + 1) (value-fine code values wants i b g mid r o bool end e one l after x) }

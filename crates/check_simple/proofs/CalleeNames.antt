@@ -1,13 +1,13 @@
 -- What the name of a callee means.
-use mathlib.Core.Path.{◌≡◌, sym, ap, subst, ◌∙◌}
-use mathlib.Core.Bool.{Bool, true, false}
+use mathlib.Core.Path.{◌≡◌, refl, sym, ap, subst, ◌∙◌}
+use mathlib.Core.Bool.{Bool, true, false, not, beq}
 use mathlib.Core.List.{List}
 use mathlib.Core.Option.{Option, none, some}
-use Prim.Native.Nat.{ℕ, ◌+◌, ◌*◌, ◌/◌, ◌%◌, ◌<◌, ◌≤◌}
+use Prim.Native.Nat.{ℕ, ◌+◌, ◌*◌, ◌<◌, ◌≤◌}
 use native.Mathlib.Omega.{arith}
 use lib.Dec.{eqb}
 use lib.ListN.{length, get_or}
-use borrow.Author.Tests.{eq-eqb, ne_eqb}
+use borrow.Author.Tests.{eq-eqb, ne_eqb, eqb-true, eqb-false}
 use Rattle.laws.proofs.Tests.{test, false-true}
 use Rattle.std.specs.Prelude.{if◌then◌else◌}
 use Rattle.paper.specs.Sorts.{NAME, FUNC}
@@ -23,12 +23,28 @@ use Rattle.check_names.specs.Meanings.{first_meaning, meaning_with, meaning_in}
 use Rattle.check_names.specs.Promises.{meaning_at}
 use Rattle.check_expressions.specs.Known.{Fresh}
 use Rattle.check_expressions.specs.Known as expressions
-use Rattle.check_simple.specs.declared.Callee.TheVariants.{At, Wrong}
 use Rattle.check_simple.specs.Parts.{WrongName, Callees, CalleeWrong, CalleeSays, CalleeTold}
 use Rattle.check_simple.proofs.Callees.{Known, known}
 use Rattle.check_simple.proofs.Arguments.{apart-same}
 use Rattle.layout.specs.Rules.{unknown_name, wrong_kind}
+use Rattle.std.specs.Prelude.{Ok, Err}
+use Rattle.layout.specs.Broken.{number_of}
+use Rattle.layout.specs.declared.rules.Rule.{Rule}
+use Rattle.layout.specs.declared.rules.Rule.TheVariants.{WrongKind}
 use Rattle.layout.specs.Kinds.{a_routine, kind_in, a_variable, an_array, a_constant, a_loop, an_errno, an_error_number, bool_in, own_in}
+
+-- ---- two tests
+other_way : (a b : Bool) → not (beq a b) ≡ true → b ≡ not a
+other_way true true e = sym e
+other_way true false e = refl
+other_way false true e = refl
+other_way false false e = e
+
+same_way : (a b : Bool) → not (beq a b) ≡ false → a ≡ b
+same_way true true e = refl
+same_way true false e = e
+same_way false true e = sym e
+same_way false false e = refl
 
 -- ---- a name by its cell
 pub name-means : {values : List ℕ} (k : expressions.Known values) (code : List ℕ) (i m : ℕ) → sort_in k.W i ≡ NAME → Fresh k.W (cells_of code) i → m ≡ meaning_at (cells_of code) (cells_of values) i
@@ -69,15 +85,16 @@ module _ (code values : List ℕ) (function : Bool) (i m : ℕ) (em : m ≡ mean
     unfolding meaning_in
     means = name-means g.around.known code i m g.name g.fresh em
 
-    wrong-says : (number : ℕ) → (kind_in m ≡ a_routine → ⊥) → WrongName (kind_in m) number
-        → CalleeWrong g.around.known.W g.around.K (meaning g.around.known.S (spelled g.around.known.W i)) function i number
+    wrong-says : (rule : Rule) → (kind_in m ≡ a_routine → ⊥) → WrongName (kind_in m) rule
+        → CalleeWrong g.around.known.W g.around.K (meaning g.around.known.S (spelled g.around.known.W i)) function i (record { rule = rule; word = i })
     unfolding callee_faults signature_of no_signature
-    wrong-says number d w =
+    wrong-says rule d w =
         let q : routine_in (meaning g.around.known.S (spelled g.around.known.W i)) ≡ none =
         ap routine_in (sym means) ∙ no-routine g.around.known.routine (kind_in m) (bool_in m) (own_in m) (value_in m) d in
-        let n : wrong_name (meaning g.around.known.S (spelled g.around.known.W i)) ≡ number = ap wrong_name (sym means) ∙ w.is g.around.known.routine (bool_in m) (own_in m) (value_in m) in
+        let n : wrong_name (meaning g.around.known.S (spelled g.around.known.W i)) ≡ number_of rule = ap wrong_name (sym means) ∙ w.is g.around.known.routine (bool_in m) (own_in m) (value_in m) in
         record {
           is = λ es. rw (q, callee_faults) (ap (λ (x : ℕ). fault x i) n);
+          at = refl;
           low = subst (λ (x : ℕ). x ≤ wrong_kind) n (wrong-low (meaning g.around.known.S (spelled g.around.known.W i)));
           no_result = λ _. rw (q, signature_of);
         }
@@ -96,26 +113,27 @@ module _ (code values : List ℕ) (function : Bool) (i m : ℕ) (em : m ≡ mean
       known-room : value_in m * 8 + 8 ≤ length code
       known-room = omega (arith, callee_known.low, callee_known.inside, g.calls.room)
 
-      found-says : eqb (op_at (cells_of code) (value_in m)) FUNC ≡ function → CalleeSays g.around code function i (At (value_in m))
+      found-says : eqb (op_at (cells_of code) (value_in m)) FUNC ≡ function → CalleeSays g.around code function i (Ok (value_in m))
       unfolding CalleeSays
       found-says k = record { means = routine-means; among = among; kind = k }
 
       -- a routine of the other kind
-      other-says : is_other_kind function (result_at (cells_of code) (value_in m)) ≡ true → (function ≡ true → result_at (cells_of code) (value_in m) ≡ none) → CalleeSays g.around code function i (Wrong wrong_kind)
+      other-says : is_other_kind function (result_at (cells_of code) (value_in m)) ≡ true → (function ≡ true → result_at (cells_of code) (value_in m) ≡ none) → CalleeSays g.around code function i (Err (record { rule = WrongKind; word = i }))
       unfolding CalleeSays callee_faults signature_faults signature_of routine_in
       other-says k z =
           let sig : Signature = get_or g.around.K.routines (numbered g.around.R (value_in m)) no_signature in
           let o : is_other_kind function sig.result ≡ true = ap (is_other_kind function) callee_known.result ∙ k in
           record {
             is = λ es. rw (routine-means, callee_faults) (rw (o, signature_faults));
+            at = refl;
             low = omega arith;
             no_result = λ e. rw (routine-means, signature_of) (callee_known.result ∙ z e);
           }
 
   module _ (k : ℕ) (ek : k ≡ kind_in m) where
-    pub callee-wrong : (number : ℕ) → (k ≡ a_routine → ⊥) → WrongName k number → CalleeTold code values function i (Wrong number)
+    pub callee-wrong : (rule : Rule) → (k ≡ a_routine → ⊥) → WrongName k rule → CalleeTold code values function i (Err (record { rule = rule; word = i }))
     unfolding CalleeSays
-    callee-wrong number d w = record { is = λ g. wrong-says g number (λ e. d (ek ∙ e)) (subst (λ (x : ℕ). WrongName x number) ek w) }
+    callee-wrong rule d w = record { is = λ g. wrong-says g rule (λ e. d (ek ∙ e)) (subst (λ (x : ℕ). WrongName x rule) ek w) }
 
     module _ (is : k ≡ a_routine) (h : ℕ) (eh : h ≡ value_in m) where
       of-kind : kind_in m ≡ a_routine
@@ -136,14 +154,15 @@ module _ (code values : List ℕ) (function : Bool) (i m : ℕ) (em : m ≡ mean
         unfolding result_at
         proc-result f = rw (ne_eqb (op_at (cells_of code) (value_in m)) FUNC (λ q. f (sym head-sort ∙ q)), result_at)
 
-        pub callee-no-func : function ≡ true → (s ≡ FUNC → ⊥) → CalleeTold code values function i (Wrong wrong_kind)
-        callee-no-func t f = record { is = λ g. other-says g of-kind (same_kind function _ t (proc-result f)) (λ _. proc-result f) }
+        pub callee-other : not (beq (eqb s FUNC) function) ≡ true → CalleeTold code values function i (Err (record { rule = WrongKind; word = i }))
+        callee-other d =
+            test (eqb s FUNC)
+            (λ t.
+            let no : function ≡ false = other_way _ _ d ∙ ap not t in
+            record { is = λ g. other-says g of-kind (some-kind function _ _ no (func-result (eqb-true s FUNC t))) (λ e. false-true (sym no ∙ e)) })
+            (λ t.
+            let yes : function ≡ true = other_way _ _ d ∙ ap not t in
+            record { is = λ g. other-says g of-kind (same_kind function _ yes (proc-result (eqb-false s FUNC t))) (λ _. proc-result (eqb-false s FUNC t)) })
 
-        pub callee-func : function ≡ true → s ≡ FUNC → CalleeTold code values function i (At h)
-        callee-func t f = rw eh (record { is = λ g. found-says g of-kind (eq-eqb (op_at (cells_of code) (value_in m)) FUNC (head-sort ∙ f) ∙ sym t) })
-
-        pub callee-no-proc : function ≡ false → s ≡ FUNC → CalleeTold code values function i (Wrong wrong_kind)
-        callee-no-proc t f = record { is = λ g. other-says g of-kind (some-kind function _ _ t (func-result f)) (λ e. false-true (sym t ∙ e)) }
-
-        pub callee-proc : function ≡ false → (s ≡ FUNC → ⊥) → CalleeTold code values function i (At h)
-        callee-proc t f = rw eh (record { is = λ g. found-says g of-kind (ne_eqb (op_at (cells_of code) (value_in m)) FUNC (λ q. f (sym head-sort ∙ q)) ∙ sym t) })
+        pub callee-own : not (beq (eqb s FUNC) function) ≡ false → CalleeTold code values function i (Ok h)
+        callee-own d = rw eh (record { is = λ g. found-says g of-kind (ap (λ (x : ℕ). eqb x FUNC) head-sort ∙ same_way _ _ d) })

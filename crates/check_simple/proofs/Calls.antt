@@ -3,7 +3,7 @@ use mathlib.Core.Path.{◌≡◌, refl, sym, ap, ap₂, subst, ◌∙◌}
 use mathlib.Core.Bool.{Bool, true, false, not}
 use mathlib.Core.List.{List, [], ◌∷◌, ◌++◌, map, append_assoc}
 use mathlib.Core.Option.{Option, some}
-use Prim.Native.Nat.{ℕ, suc, ◌+◌, ◌-◌, ◌*◌, ◌/◌, ◌<◌, ◌≤◌}
+use Prim.Native.Nat.{ℕ, suc, ◌+◌, ◌-◌, ◌*◌, ◌<◌, ◌≤◌}
 use native.Mathlib.Omega.{arith}
 use lib.Dec.{eqb}
 use lib.ListN.{length, length-append}
@@ -26,8 +26,11 @@ use Rattle.code.specs.Signatures.{type_at, types_at, first_parameter}
 use Rattle.grammar.specs.Form.{Parses, ExprAt, SeparatedAt, last_one, one_more, ClosedAt, closed-at-once, closed-later}
 use Rattle.grammar.proofs.Places.{exprs-grow, arguments-grow}
 use Rattle.grammar.proofs.Inversions.{FirstOf, separated_first}
-use Rattle.check_expressions.specs.declared.Judged.{Judged}
-use Rattle.check_expressions.specs.declared.Judged.TheVariants.{Typed, Faulty}
+use Rattle.check_expressions.specs.Judgements.{Judged}
+use Rattle.std.specs.Prelude.{Ok, Err}
+use Rattle.layout.specs.Broken.{as_fault}
+use Rattle.layout.specs.declared.rules.Breach.{Breach}
+use Rattle.layout.specs.declared.rules.Rule.TheVariants.{Barred, WrongCount}
 use Rattle.check_expressions.specs.Known.{Loaded}
 use Rattle.store_writing.specs.Promises.{Kept, Linked}
 use Rattle.check_expressions.specs.Answers as expressions
@@ -41,13 +44,13 @@ use Rattle.faults.proofs.Statements.{arguments-inside}
 use Rattle.check_links.specs.Raw.{Quiet, RawArguments}
 use Rattle.check_links.proofs.Moving.{argument-last, argument-next}
 use Rattle.check_around.specs.Around.{Around, ground_of, Apart}
-use Rattle.check_around.specs.Answers.{Fine, Answer, Tell}
+use Rattle.check_around.specs.Answers.{Fine, Stepped, Answer, Tell}
 use Rattle.check_simple.specs.Parts.{Passed, Reads, reads-one, reads_more, ReadAll, no_arguments, some-arguments, Rest, More, MoreRead, MoreJudged, Counts, Counted, CallSide, signature_for, CallWritten, CallJudged}
 use Rattle.check_simple.proofs.Expressions.{no-operator, level-semicolon, level-paren, quiet-above, Told, answer-first, answer-fine}
 use Rattle.check_simple.proofs.Callees.{Known, known}
 use Rattle.check_simple.proofs.Arguments.{link-below, unread-part, unread-after, apart-kept, apart-same, reads-grow, reads-below, one-asks, one-long, one_told, one-first, one-is-first, one-is-fine, next_level, same-tail}
 use Rattle.layout.specs.Rules.{wrong_count, barred}
-use Rattle.layout.specs.Types.{no_type}
+use Rattle.layout.specs.declared.types.ValueType.{ValueType}
 
 -- ---- terms that have been read are the arguments
 module _ (m n : ℕ) (fn : Bool) (text : List ℕ) (R : List Head) (C : List ℕ) where
@@ -102,11 +105,11 @@ read_below m n k ts a b z h (no_arguments e f g) = no_arguments e f g
 read_below m n k ts a b z h (some-arguments l r) = some-arguments l (reads-below m n k a b h r)
 
 -- ---- answers carried on
-pub answer-on : (fs gs : List Fault) (before mid after : List ℕ) (at to x y : ℕ) (P Q : Type 0) (r : Judged) → Answer fs mid after at to P r → length mid ≡ length before
+pub answer-on : (fs gs : List Fault) (before mid after : List ℕ) (at to x y : ℕ) (P Q : Type 0) (r : Stepped) → Answer fs mid after at to P r → length mid ≡ length before
     → ((f : Fault) → First f fs → First f gs) → ((next : ℕ) → Fine fs mid after at to next P → Fine gs before after x y next Q) → Answer gs before after x y Q r
 unfolding Tell
-answer-on fs gs before mid after at to x y P Q (Typed b next) a l f g = record { tells = g next a.tells; long = a.long ∙ l }
-answer-on fs gs before mid after at to x y P Q (Faulty number word) a l f g = record { tells = f (record { number = number; at = word }) a.tells; long = a.long ∙ l }
+answer-on fs gs before mid after at to x y P Q (Ok next) a l f g = record { tells = g next a.tells; long = a.long ∙ l }
+answer-on fs gs before mid after at to x y P Q (Err broken) a l f g = record { tells = f (as_fault broken) a.tells; long = a.long ∙ l }
 
 -- no arguments
 none-closed : {W : ℕ → ℕ} {closing : ℕ} {l : List Expr} {at to : ℕ} → ClosedAt W (ExprAt W (Parses W)) closing l at to → length l ≡ 0 → (l ≡ []) × (to ≡ at)
@@ -209,11 +212,11 @@ module _ (code values : List ℕ) (undo : Bool) (h callee first closing : ℕ) (
 
       -- there are none
       none-answer : count ≡ 0 → (op : ℕ) (after : List ℕ) → Linked code after callee op h first
-          → Answer called code after callee g.z (CallWritten g (cells_of after) op) (Typed no_type first)
+          → Answer called code after callee g.z (CallWritten g (cells_of after) op) (Ok first)
       unfolding argument_faults ground_of params
       none-answer zero_is op after l =
           let n = none-closed g.stand.arguments (sym count-is ∙ zero_is) in
-          answer-fine _ code after callee g.z _ no_type first (record {
+          answer-fine _ code after callee g.z _ first (record {
             none = all-faults ∙ ap (passing params) n.0;
             next-is = sym n.1;
             written = record {
@@ -279,13 +282,13 @@ module _ (code values : List ℕ) (undo : Bool) (h callee first closing : ℕ) (
           first-long : length mid ≡ length code
           first-long = one-long g.around code p first one.a one.n one.one one-load one-no mid j pass
 
-          first-wrong : (number word : ℕ) → j ≡ Faulty number word → First (record { number = number; at = word }) called
-          first-wrong number word e =
-              subst (First (record { number = number; at = word })) (sym faults-are)
-              (one-is-first g.around (type_at (cells_of code) p) left one.a one.rest first one.n g.z one.one one.more one.done (record { number = number; at = word })
-              (one-first g.around code p first one.a one.n one.one one-load one-no mid j pass number word e))
+          first-wrong : (broken : Breach) → j ≡ Err broken → First (as_fault broken) called
+          first-wrong broken e =
+              subst (First (as_fault broken)) (sym faults-are)
+              (one-is-first g.around (type_at (cells_of code) p) left one.a one.rest first one.n g.z one.one one.more one.done (as_fault broken)
+              (one-first g.around code p first one.a one.n one.one one-load one-no mid j pass broken e))
 
-          module _ (b : ℕ) (n : ℕ) (e : j ≡ Typed b n) where
+          module _ (b : ValueType) (n : ℕ) (e : j ≡ Ok (b, n)) where
             first-told : Told g.around.known (of_type g.around.known.W (type_at (cells_of code) p) g.around.known.S one.a) code mid one.a first one.n n
             first-told = one_told g.around code p first one.a one.n one.one one-load one-no mid j pass b n e
 
@@ -330,7 +333,7 @@ module _ (code values : List ℕ) (undo : Bool) (h callee first closing : ℕ) (
               fine-faults : called ≡ passing left one.rest
               fine-faults = faults-are ∙ one-is-fine g.around (type_at (cells_of code) p) left one.a one.rest first one.n g.z one.one one.more one.done first-told.none
 
-              module _ (final : List ℕ) (r : Judged) (m : MoreJudged after values final p n r) where
+              module _ (final : List ℕ) (r : Stepped) (m : MoreJudged after values final p n r) where
                 fine-on : (next : ℕ) → Fine (passing left one.rest) after final n g.z next (MoreRead call-more (cells_of final))
                     → Fine called code final callee g.z next (CallWritten g (cells_of final) op)
                 unfolding call-more ground_of params
@@ -365,33 +368,33 @@ module _ (code values : List ℕ) (undo : Bool) (h callee first closing : ℕ) (
 
 -- ---- what the call answers
 module _ (code values : List ℕ) (undo : Bool) (op h callee first closing : ℕ) (count : ℕ) (c : Counted code first closing count) (w : ℕ) (ew : w ≡ head_at (cells_of code) h) where
-  pub called-wrong : (count ≡ value_in w → ⊥) → CallJudged code values code undo op h callee first closing (Faulty wrong_count callee)
+  pub called-wrong : (count ≡ value_in w → ⊥) → CallJudged code values code undo op h callee first closing (Err (record { rule = WrongCount; word = callee }))
   unfolding params
   called-wrong d = record {
-    is = λ g. answer-first _ code code callee g.z _ (Faulty wrong_count callee) wrong_count callee refl refl (many-wrong code values undo h callee first closing g count c w ew d);
+    is = λ g. answer-first _ code code callee g.z _ (Err (record { rule = WrongCount; word = callee })) _ refl refl (many-wrong code values undo h callee first closing g count c w ew d);
   }
 
-  pub called-barred : count ≡ value_in w → undo ≡ true → CallJudged code values code undo op h callee first closing (Faulty barred callee)
+  pub called-barred : count ≡ value_in w → undo ≡ true → CallJudged code values code undo op h callee first closing (Err (record { rule = Barred; word = callee }))
   unfolding params
   called-barred same t = record {
-    is = λ g. answer-first _ code code callee g.z _ (Faulty barred callee) barred callee refl refl (barred-first code values undo h callee first closing g count c w ew same t);
+    is = λ g. answer-first _ code code callee g.z _ (Err (record { rule = Barred; word = callee })) _ refl refl (barred-first code values undo h callee first closing g count c w ew same t);
   }
 
   module _ (same : count ≡ value_in w) (may : undo ≡ false) where
-    pub called-none : count ≡ 0 → (after : List ℕ) → Linked code after callee op h first → CallJudged code values after undo op h callee first closing (Typed no_type first)
+    pub called-none : count ≡ 0 → (after : List ℕ) → Linked code after callee op h first → CallJudged code values after undo op h callee first closing (Ok first)
     unfolding params
     called-none z after l = record { is = λ g. none-answer code values undo h callee first closing g count c w ew same may z op after l }
 
     module _ (some-are : count ≡ 0 → ⊥) (p : ℕ) (ep : p ≡ first_parameter (cells_of code) h) (mid : List ℕ) (j : Judged) (pass : Passed code values mid p first j) where
-      pub called-faulty : (number word : ℕ) → j ≡ Faulty number word → CallJudged code values mid undo op h callee first closing j
+      pub called-faulty : (broken : Breach) → j ≡ Err broken → CallJudged code values mid undo op h callee first closing (Err broken)
       unfolding params
-      called-faulty number word e = record {
+      called-faulty broken e = record {
         is = λ g.
-            answer-first _ code mid callee g.z _ j number word e (first-long code values undo h callee first closing g count c w ew same may some-are p ep mid j pass)
-            (first-wrong code values undo h callee first closing g count c w ew same may some-are p ep mid j pass number word e);
+            answer-first _ code mid callee g.z _ (Err broken) broken refl (first-long code values undo h callee first closing g count c w ew same may some-are p ep mid j pass)
+            (first-wrong code values undo h callee first closing g count c w ew same may some-are p ep mid j pass broken e);
       }
 
-      pub called_on : (b : ℕ) (n : ℕ) → j ≡ Typed b n → (after : List ℕ) → Linked mid after callee op h n → (final : List ℕ) (r : Judged) → MoreJudged after values final p n r
+      pub called_on : (b : ValueType) (n : ℕ) → j ≡ Ok (b, n) → (after : List ℕ) → Linked mid after callee op h n → (final : List ℕ) (r : Stepped) → MoreJudged after values final p n r
           → CallJudged code values final undo op h callee first closing r
       unfolding params
       called_on b n e after l final r m = record {

@@ -1,6 +1,6 @@
 -- An expression in a statement: that it stands, and what is told of it.
 use mathlib.Core.Path.{◌≡◌, refl, sym, ap, subst, ◌∙◌}
-use mathlib.Core.Bool.{Bool, false}
+use mathlib.Core.Bool.{false}
 use mathlib.Core.List.{List, []}
 use mathlib.Core.Option.{some}
 use Prim.Native.Nat.{ℕ, suc, ◌+◌, ◌-◌, ◌*◌, ◌<◌, ◌≤◌}
@@ -17,8 +17,10 @@ use Rattle.code.specs.Cells.{op_in, op_at, value_at}
 use Rattle.code.specs.Spans.{term_in}
 use Rattle.climb.proofs.Operands.{deeper}
 use Rattle.grammar.specs.Form.{Parses}
-use Rattle.check_expressions.specs.declared.Judged.{Judged}
-use Rattle.check_expressions.specs.declared.Judged.TheVariants.{Typed, Faulty}
+use Rattle.check_expressions.specs.Judgements.{Judged}
+use Rattle.std.specs.Prelude.{Ok, Err}
+use Rattle.layout.specs.Broken.{as_fault}
+use Rattle.layout.specs.declared.rules.Breach.{Breach}
 use Rattle.check_expressions.specs.Known.{Loaded, Known}
 use Rattle.store_writing.specs.Promises.{Kept, Linked}
 use Rattle.check_expressions.specs.Answers.{Judges, OfType}
@@ -31,10 +33,11 @@ use Rattle.check_links.specs.Resolved.{is_led}
 use Rattle.check_links.specs.Raw.{Quiet, RawTerm}
 use Rattle.check_links.proofs.Ops.{quiet-low}
 use Rattle.check_around.specs.Around.{Around, ground_of}
-use Rattle.check_around.specs.Answers.{Answer, Fine, Tell}
+use Rattle.check_around.specs.Answers.{Stepped, Answer, Fine, Tell}
 use Rattle.check_simple.specs.Parts.{Values, Valued}
 use Rattle.code.specs.Steps.{a_target}
 use Rattle.layout.specs.Types.{type_in}
+use Rattle.layout.specs.declared.types.ValueType.{ValueType}
 use Rattle.paper.specs.Words.{word_limit}
 
 -- ---- no operator follows
@@ -92,7 +95,7 @@ module _ {code values : List ℕ} (k : Known values) (sorts : (i : ℕ) → sort
   low-before i h g = subst (λ (o : ℕ). o < a_target) (sym (l.words i h (omega arith)).sort) (sorts i)
 
   module _ (after : List ℕ) (t : DataType) (j : types.Judged) (q : j.faults ≡ of_type k.W t k.S e) (x : j.term ≡ term_of k.W k.S e) (r : Judged) (h : Judges k.m k.n code after at to j r) where
-    pub told : (b : ℕ) (next : ℕ) → r ≡ Typed b next → Told k (of_type k.W t k.S e) code after e at to next
+    pub told : (b : ValueType) (next : ℕ) → r ≡ Ok (b, next) → Told k (of_type k.W t k.S e) code after e at to next
     told b next z =
         let s = says_typed k.m k.n (cells_of after) at to j r b next z h.says in
         record {
@@ -103,13 +106,13 @@ module _ {code values : List ℕ} (k : Known values) (sorts : (i : ℕ) → sort
           quiet = quiet-low (cells_of after) at to (λ i g m. h.low.stays i (low-before i g m));
         }
 
-    pub told-first : (number word : ℕ) → r ≡ Faulty number word → First (record { number = number; at = word }) (of_type k.W t k.S e)
-    told-first number word z =
-        let s = says-faulty k.m k.n (cells_of after) at to j r number word z h.says in
-        of-type-first k.W d at e to p (record { number = number; at = word }) s.others t k.S (sym q ∙ s.faults-are)
+    pub told-first : (broken : Breach) → r ≡ Err broken → First (as_fault broken) (of_type k.W t k.S e)
+    told-first broken z =
+        let s = says-faulty k.m k.n (cells_of after) at to j r broken z h.says in
+        of-type-first k.W d at e to p (as_fault broken) s.others t k.S (sym q ∙ s.faults-are)
 
   -- the same of one that has to be of a type
-  module _ (after : List ℕ) (wants : ℕ) (t : DataType) (w : type_in wants ≡ some t) (r : Judged) (o : OfType code values after false wants at r) where
+  module _ (after : List ℕ) (wants : ValueType) (t : DataType) (w : type_in wants ≡ t) (r : Judged) (o : OfType code values after false wants at r) where
     typed-faults : (expressions.of_type t (first e) (judge k.W false k.S e)).faults ≡ of_type k.W t k.S e
     unfolding of_type
     typed-faults = refl
@@ -118,36 +121,36 @@ module _ {code values : List ℕ} (k : Known values) (sorts : (i : ℕ) → sort
     unfolding term_of
     typed-term = refl
 
-    pub typed-told : (b : ℕ) (next : ℕ) → r ≡ Typed b next → Told k (of_type k.W t k.S e) code after e at to next
+    pub typed-told : (b : ValueType) (next : ℕ) → r ≡ Ok (b, next) → Told k (of_type k.W t k.S e) code after e at to next
     unfolding asks
     typed-told b next z = told after t (expressions.of_type t (first e) (judge k.W false k.S e)) typed-faults typed-term r (o.is asks t w) b next z
 
-    pub typed-first : (number word : ℕ) → r ≡ Faulty number word → First (record { number = number; at = word }) (of_type k.W t k.S e)
+    pub typed-first : (broken : Breach) → r ≡ Err broken → First (as_fault broken) (of_type k.W t k.S e)
     unfolding asks
-    typed-first number word z = told-first after t (expressions.of_type t (first e) (judge k.W false k.S e)) typed-faults typed-term r (o.is asks t w) number word z
+    typed-first broken z = told-first after t (expressions.of_type t (first e) (judge k.W false k.S e)) typed-faults typed-term r (o.is asks t w) broken z
 
     pub typed_long : length after ≡ length code
     unfolding asks
     typed_long = (o.is asks t w).kept.long
 
 -- ---- answers by their cases
-pub answer-first : (fs : List Fault) (before after : List ℕ) (at to : ℕ) (holds : Type 0) (r : Judged) (number word : ℕ) → r ≡ Faulty number word → length after ≡ length before
-    → First (record { number = number; at = word }) fs → Answer fs before after at to holds r
+pub answer-first : (fs : List Fault) (before after : List ℕ) (at to : ℕ) (holds : Type 0) (r : Stepped) (broken : Breach) → r ≡ Err broken → length after ≡ length before
+    → First (as_fault broken) fs → Answer fs before after at to holds r
 unfolding Tell
-answer-first fs before after at to holds r number word e long f = subst (Answer fs before after at to holds) (sym e) (record { tells = f; long = long })
+answer-first fs before after at to holds r broken e long f = subst (Answer fs before after at to holds) (sym e) (record { tells = f; long = long })
 
-pub answer-fine : (fs : List Fault) (before after : List ℕ) (at to : ℕ) (holds : Type 0) (b : ℕ) (next : ℕ) → Fine fs before after at to next holds → Answer fs before after at to holds (Typed b next)
+pub answer-fine : (fs : List Fault) (before after : List ℕ) (at to : ℕ) (holds : Type 0) (next : ℕ) → Fine fs before after at to next holds → Answer fs before after at to holds (Ok next)
 unfolding Tell
-answer-fine fs before after at to holds b next f = record { tells = f; long = f.kept.long }
+answer-fine fs before after at to holds next f = record { tells = f; long = f.kept.long }
 
-module _ (fs : List Fault) (before after : List ℕ) (at to : ℕ) (holds : Type 0) (r : Judged) (a : Answer fs before after at to holds r) where
-  pub answered-fine : (b : ℕ) (next : ℕ) → r ≡ Typed b next → Fine fs before after at to next holds
+module _ (fs : List Fault) (before after : List ℕ) (at to : ℕ) (holds : Type 0) (r : Stepped) (a : Answer fs before after at to holds r) where
+  pub answered-fine : (next : ℕ) → r ≡ Ok next → Fine fs before after at to next holds
   unfolding Tell
-  answered-fine b next e = subst (Tell fs before after at to holds) e a.tells
+  answered-fine next e = subst (Tell fs before after at to holds) e a.tells
 
-  pub answered-first : (number word : ℕ) → r ≡ Faulty number word → First (record { number = number; at = word }) fs
+  pub answered-first : (broken : Breach) → r ≡ Err broken → First (as_fault broken) fs
   unfolding Tell
-  answered-first number word e = subst (Tell fs before after at to holds) e a.tells
+  answered-first broken e = subst (Tell fs before after at to holds) e a.tells
 
 -- ---- a statement with a value
 module _ (code values : List ℕ) (from i : ℕ) (g : Values code values from i) where
@@ -157,15 +160,15 @@ module _ (code values : List ℕ) (from i : ℕ) (g : Values code values from i)
   values-grow : from < g.to
   values-grow = grows g.around.known.W (suc nestings) from g.e g.to g.value
 
-  module _ (mid : List ℕ) (wants : ℕ) (t : DataType) (w : type_in wants ≡ some t) (r : Judged) (o : OfType code values mid false wants from r) where
-    values-told : (b : ℕ) (end : ℕ) → r ≡ Typed b end → Told g.around.known (of_type g.around.known.W t g.around.known.S g.e) code mid g.e from g.to end
+  module _ (mid : List ℕ) (wants : ValueType) (t : DataType) (w : type_in wants ≡ t) (r : Judged) (o : OfType code values mid false wants from r) where
+    values-told : (b : ValueType) (end : ℕ) → r ≡ Ok (b, end) → Told g.around.known (of_type g.around.known.W t g.around.known.S g.e) code mid g.e from g.to end
     values-told = typed-told g.around.known g.around.sorts (suc nestings) from g.e g.to g.value g.loaded (no-operator _ _ g.ends level-semicolon) (omega arith) mid wants t w r o
 
     pub values-room : i * 8 + 8 ≤ length mid
     values-room =
         omega (arith, typed_long g.around.known g.around.sorts (suc nestings) from g.e g.to g.value g.loaded (no-operator _ _ g.ends level-semicolon) (omega arith) mid wants t w r o, g.loaded.room, g.before, values-grow)
 
-    pub values-end : (b : ℕ) (end : ℕ) → r ≡ Typed b end → end < word_limit
+    pub values-end : (b : ValueType) (end : ℕ) → r ≡ Ok (b, end) → end < word_limit
     values-end b end e = omega (arith, (values-told b end e).next-is, g.loaded.last)
 
 -- a term that is told of, as the links know it
@@ -183,24 +186,24 @@ raw-term-after a mid after e at to x y k h t = record {
   quiet = quiet-above k at to h t.quiet;
 }
 
-pub valued-faulty : (code values after : List ℕ) (op : ℕ) (wants : ℕ) (from i : ℕ) (r : Judged) → OfType code values after false wants from r → (number word : ℕ) → r ≡ Faulty number word
-    → Valued code values after op wants from i r
-valued-faulty code values after op wants from i r o number word e = record {
+pub valued-faulty : (code values after : List ℕ) (op : ℕ) (wants : ValueType) (from i : ℕ) (r : Judged) → OfType code values after false wants from r → (broken : Breach) → r ≡ Err broken
+    → Valued code values after op wants from i (Err broken)
+valued-faulty code values after op wants from i r o broken e = record {
   is = λ g u w.
       let no = no-operator _ _ g.ends level-semicolon in
-      answer-first _ code after i (g.to + 1) _ r number word e
+      answer-first _ code after i (g.to + 1) _ (Err broken) broken refl
       (typed_long g.around.known g.around.sorts (suc nestings) from g.e g.to g.value g.loaded no (omega arith) after wants u w r o)
-      (typed-first g.around.known g.around.sorts (suc nestings) from g.e g.to g.value g.loaded no (omega arith) after wants u w r o number word e);
+      (typed-first g.around.known g.around.sorts (suc nestings) from g.e g.to g.value g.loaded no (omega arith) after wants u w r o broken e);
 }
 
-pub valued-typed : (code values mid after : List ℕ) (op : ℕ) (wants : ℕ) (from i : ℕ) (r : Judged) → OfType code values mid false wants from r → (b : ℕ) (end : ℕ) → r ≡ Typed b end
-    → Linked mid after i op end (end + 1) → Valued code values after op wants from i (Typed b (end + 1))
+pub valued-typed : (code values mid after : List ℕ) (op : ℕ) (wants : ValueType) (from i : ℕ) (r : Judged) → OfType code values mid false wants from r → (b : ValueType) (end : ℕ) → r ≡ Ok (b, end)
+    → Linked mid after i op end (end + 1) → Valued code values after op wants from i (Ok (end + 1))
 valued-typed code values mid after op wants from i r o b end e l = record {
   is = λ g u w.
       let t = values-told code values from i g mid wants u w r o b end e in
       let grow = values-grow code values from i g in
       let v : g.to ≡ value_at (cells_of after) i = sym (l.value-is ∙ t.next-is) in
-      answer-fine _ code after i (g.to + 1) _ b (end + 1) (record {
+      answer-fine _ code after i (g.to + 1) _ (end + 1) (record {
         none = t.none;
         next-is = ap (λ (x : ℕ). x + 1) t.next-is;
         written = record {

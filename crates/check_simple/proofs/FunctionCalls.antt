@@ -3,7 +3,7 @@ use mathlib.Core.Path.{◌≡◌, refl, sym, ap, ap₂, subst, ◌∙◌}
 use mathlib.Core.Bool.{Bool, true, false, not}
 use mathlib.Core.List.{List, [], ◌++◌}
 use mathlib.Core.Option.{Option, none, some}
-use Prim.Native.Nat.{ℕ, ◌+◌, ◌*◌, ◌/◌, ◌%◌, ◌<◌, ◌≤◌}
+use Prim.Native.Nat.{ℕ, ◌+◌, ◌*◌, ◌<◌, ◌≤◌}
 use native.Mathlib.Omega.{arith}
 use lib.Dec.{eqb}
 use lib.ListN.{length}
@@ -24,8 +24,10 @@ use Rattle.code.specs.Steps.{a_call_target, numbered, a_target}
 use Rattle.code.specs.Signatures.{type_at}
 use Rattle.grammar.specs.Form.{Parses}
 use Rattle.grammar.proofs.Places.{arguments-grow}
-use Rattle.check_expressions.specs.declared.Judged.{Judged}
-use Rattle.check_expressions.specs.declared.Judged.TheVariants.{Typed, Faulty}
+use Rattle.std.specs.Prelude.{Ok, Err}
+use Rattle.layout.specs.Broken.{as_fault, number_of}
+use Rattle.layout.specs.declared.rules.Breach.{Breach}
+use Rattle.layout.specs.declared.rules.Rule.TheVariants.{WrongType}
 use Rattle.store_writing.specs.Promises.{Kept, Linked}
 use Rattle.store_writing.proofs.Keeping.{cell-above, head-below, place-below, kept-wider, kept_on}
 use Rattle.check_expressions.proofs.FaultsOfParts.{append-none}
@@ -37,11 +39,9 @@ use Rattle.check_links.specs.Raw.{SameWords, RawArguments, RawAssignCall}
 use Rattle.check_links.proofs.Ops.{low-still}
 use Rattle.check_links.proofs.Moving.{still-value, still-place, still-moves, arguments-move, callee-moves}
 use Rattle.check_links.proofs.Framing.{same-cells, same-moves}
-use Rattle.check_simple.specs.declared.Callee.{Callee}
-use Rattle.check_simple.specs.declared.Callee.TheVariants.{At, Wrong}
 use Rattle.check_around.specs.Around.{Around, ground_of}
-use Rattle.check_around.specs.Answers.{Fine, Answer}
-use Rattle.check_simple.specs.Parts.{TypeDiffers, Callees, CalleeFound, CalleeWrong, CalleeSays, CalleeTold, CallSide, signature_for, side_faults, CallWritten, CallJudged, ForCalls, ForWritten, for_faults, ForJudged, AssignWritten, CallAssigns, CallAssigned}
+use Rattle.check_around.specs.Answers.{Stepped, Fine, Answer}
+use Rattle.check_simple.specs.Parts.{TypeDiffers, Callee, Callees, CalleeFound, CalleeWrong, CalleeSays, CalleeTold, CallSide, signature_for, side_faults, CallWritten, CallJudged, ForCalls, ForWritten, for_faults, ForJudged, AssignWritten, CallAssigns, CallAssigned}
 use Rattle.check_simple.proofs.Expressions.{quiet-below, quiet-above, answer-first, answer-fine, answered-fine, answered-first}
 use Rattle.check_simple.proofs.ParameterTypes.{type-at}
 use Rattle.check_simple.proofs.Arguments.{unread-part}
@@ -49,20 +49,21 @@ use Rattle.check_simple.proofs.Calls.{raw-arguments, answer-on, closes-low}
 use Rattle.check_simple.proofs.CalleesFound.{differs-turned, found-room, found-signature, found-faults, found-result, found-read}
 use Rattle.check_simple.proofs.Assignments.{link-above, aims-below, aims-above, aims-few, raw-target}
 use Rattle.layout.specs.Rules.{wrong_type, wrong_count, barred}
-use Rattle.layout.specs.Types.{type_in, IsType}
+use Rattle.layout.specs.Types.{type_in}
+use Rattle.layout.specs.declared.types.ValueType.{ValueType}
 use mathlib.Core.Option.{some}
 use Rattle.layout.specs.Parts.{value_part, link_part}
 
 -- ---- what the name of a callee is told to be
-pub told-found : {text values : List ℕ} (a : Around text values) (code : List ℕ) (function : Bool) (i : ℕ) (r : Callee) (h : ℕ) → r ≡ At h → CalleeSays a code function i r
+pub told-found : {text values : List ℕ} (a : Around text values) (code : List ℕ) (function : Bool) (i : ℕ) (r : Callee) (h : ℕ) → r ≡ Ok h → CalleeSays a code function i r
     → CalleeFound (numbered a.R) (length a.R) code (meaning a.known.S (spelled a.known.W i)) function h
 unfolding CalleeSays
 told-found a code function i r h e s = subst (CalleeSays a code function i) e s
 
-pub told-wrong : {text values : List ℕ} (a : Around text values) (code : List ℕ) (function : Bool) (i : ℕ) (r : Callee) (number : ℕ) → r ≡ Wrong number → CalleeSays a code function i r
-    → CalleeWrong a.known.W a.K (meaning a.known.S (spelled a.known.W i)) function i number
+pub told-wrong : {text values : List ℕ} (a : Around text values) (code : List ℕ) (function : Bool) (i : ℕ) (r : Callee) (broken : Breach) → r ≡ Err broken → CalleeSays a code function i r
+    → CalleeWrong a.known.W a.K (meaning a.known.S (spelled a.known.W i)) function i broken
 unfolding CalleeSays
-told-wrong a code function i r number e s = subst (CalleeSays a code function i) e s
+told-wrong a code function i r broken e s = subst (CalleeSays a code function i) e s
 
 no_result : (W : List Word) (j : types.Judged) (o : Option DataType) (i : ℕ) → o ≡ none → result_faults W j o i ≡ []
 unfolding result_faults
@@ -104,18 +105,18 @@ module _ (code values : List ℕ) (undo : Bool) (i : ℕ) (g : ForCalls code val
     unfolding for-callees
     for-says = c.is for-callees
 
-    for-wrong-first : (number : ℕ) → r ≡ Wrong number → (j : types.Judged) → First (record { number = number; at = i }) (for_faults g j)
+    for-wrong-first : (broken : Breach) → r ≡ Err broken → (j : types.Judged) → First (as_fault broken) (for_faults g j)
     unfolding call_faults
-    for-wrong-first number e j =
-        let w = told-wrong g.around code true i r number e for-says in
+    for-wrong-first broken e j =
+        let w = told-wrong g.around code true i r broken e for-says in
         first-left
         (first-left
-        (first-right (leads-same-if (record { number = number; at = i }) _ barred i refl (ranks number barred (omega arith) (omega (arith, w.low))))
-        (subst (First (record { number = number; at = i })) (sym (w.is g.es)) (first-fault number i)))
-        (for-later number _))
+        (first-right (leads-same-if (as_fault broken) _ barred i w.at (ranks (number_of broken.rule) barred (omega arith) (omega (arith, w.low))))
+        (subst (First (as_fault broken)) (sym (w.is g.es)) (first-fault (number_of broken.rule) broken.word)))
+        (leads-later (as_fault broken) (arguments-inside g.around.known.W g.around.known.S _ g.stand.arguments) (omega (arith, w.at))))
         (every-none (no_result g.around.known.W j _ i (w.no_result refl)))
 
-    module _ (h : ℕ) (e : r ≡ At h) where
+    module _ (h : ℕ) (e : r ≡ Ok h) where
       for-found : CalleeFound (numbered g.around.R) (length g.around.R) code (meaning g.around.known.S (spelled g.around.known.W i)) true h
       for-found = told-found g.around code true i r h e for-says
 
@@ -149,7 +150,7 @@ module _ (code values : List ℕ) (undo : Bool) (i : ℕ) (g : ForCalls code val
           a-result g.around.known.W j _ (type_at (cells_of code) (h + 1)) i
           (ap (λ (x : Signature). x.result) (found-signature g.around code i (g.z + 1) true h for-found g.calls) ∙ found-result g.around code i (g.z + 1) true h for-found g.calls refl)
 
-      module _ (w : ℕ) (ew : w ≡ head_at (cells_of code) (h + 1)) (wants : ℕ) (t : Bool) (d : TypeDiffers w wants t) (j : types.Judged) (ty : type_in wants ≡ some j.type) where
+      module _ (w : ℕ) (ew : w ≡ head_at (cells_of code) (h + 1)) (wants : ValueType) (t : Bool) (d : TypeDiffers w wants t) (j : types.Judged) (ty : type_in wants ≡ j.type) where
         result-differs : differs j.type (type_at (cells_of code) (h + 1)) ≡ t
         result-differs =
             differs-turned j.type (type_at (cells_of code) (h + 1)) ∙ sym (ap (λ (x : DataType). differs x j.type) (type-at (cells_of code) (h + 1) w ew)) ∙ d.is j.type ty
@@ -191,21 +192,21 @@ module _ (code values : List ℕ) (undo : Bool) (i : ℕ) (g : ForCalls code val
           kept = f.kept;
         }
 
-        for-answer : (final : List ℕ) (q : Judged) → t ≡ false → CallJudged code values final undo 1 h i (i + 2) 7 q → Answer (for_faults g j) code final i g.z (ForWritten g (cells_of final)) q
+        for-answer : (final : List ℕ) (q : Stepped) → t ≡ false → CallJudged code values final undo 1 h i (i + 2) 7 q → Answer (for_faults g j) code final i g.z (ForWritten g (cells_of final)) q
         unfolding for-side
         for-answer final q y c =
             answer-on _ (for_faults g j) code code final i g.z i g.z (CallWritten for-side (cells_of final) 1) (ForWritten g (cells_of final)) q (c.is for-side) refl
             (λ x f. subst (First x) (sym (for-faults y)) f) (λ next f. for-written final next y f)
 
-module _ (code values : List ℕ) (undo : Bool) (wants : ℕ) (i : ℕ) (r : Callee) (c : CalleeTold code values true i r) where
-  pub for-wrong : (number : ℕ) → r ≡ Wrong number → ForJudged code values code undo wants i (Faulty number i)
-  for-wrong number e = record { is = λ g j ty. answer-first (for_faults g j) code code i g.z _ (Faulty number i) number i refl refl (for-wrong-first code values undo i g r c number e j) }
+module _ (code values : List ℕ) (undo : Bool) (wants : ValueType) (i : ℕ) (r : Callee) (c : CalleeTold code values true i r) where
+  pub for-wrong : (broken : Breach) → r ≡ Err broken → ForJudged code values code undo wants i (Err broken)
+  for-wrong broken e = record { is = λ g j ty. answer-first (for_faults g j) code code i g.z _ (Err broken) broken refl refl (for-wrong-first code values undo i g r c broken e j) }
 
-  module _ (h : ℕ) (e : r ≡ At h) (w : ℕ) (ew : w ≡ head_at (cells_of code) (h + 1)) (t : Bool) (d : TypeDiffers w wants t) where
-    pub for-differs : t ≡ true → ForJudged code values code undo wants i (Faulty wrong_type i)
-    for-differs y = record { is = λ g j ty. answer-first (for_faults g j) code code i g.z _ (Faulty wrong_type i) wrong_type i refl refl (for-differs-first code values undo i g r c h e w ew wants t d j ty y) }
+  module _ (h : ℕ) (e : r ≡ Ok h) (w : ℕ) (ew : w ≡ head_at (cells_of code) (h + 1)) (t : Bool) (d : TypeDiffers w wants t) where
+    pub for-differs : t ≡ true → ForJudged code values code undo wants i (Err (record { rule = WrongType; word = i }))
+    for-differs y = record { is = λ g j ty. answer-first (for_faults g j) code code i g.z _ (Err (record { rule = WrongType; word = i })) _ refl refl (for-differs-first code values undo i g r c h e w ew wants t d j ty y) }
 
-    pub for-called : t ≡ false → (final : List ℕ) (q : Judged) → CallJudged code values final undo 1 h i (i + 2) 7 q → ForJudged code values final undo wants i q
+    pub for-called : t ≡ false → (final : List ℕ) (q : Stepped) → CallJudged code values final undo 1 h i (i + 2) 7 q → ForJudged code values final undo wants i q
     for-called y final q x = record { is = λ g j ty. for-answer code values undo i g r c h e w ew wants t d j ty final q y x }
 
 -- ---- target := f(args)
@@ -216,16 +217,16 @@ module _ (code values : List ℕ) (undo : Bool) (i b : ℕ) (g : CallAssigns cod
   pub assign-small : b + 1 < word_limit
   assign-small = omega (arith, assign-on, g.for.unread.loaded.last)
 
-  module _ (wants : ℕ) (j : types.Judged) (ty : type_in wants ≡ some j.type) (mid : List ℕ) (r : Judged) (f : ForJudged code values mid undo wants (b + 1) r) where
+  module _ (wants : ValueType) (j : types.Judged) (ty : type_in wants ≡ j.type) (mid : List ℕ) (r : Stepped) (f : ForJudged code values mid undo wants (b + 1) r) where
     assign-answer : Answer (for_faults g.for j) code mid (b + 1) g.for.z (ForWritten g.for (cells_of mid)) r
     assign-answer = f.is g.for j ty
 
-    assign-first : (number word : ℕ) → r ≡ Faulty number word → First (record { number = number; at = word }) (for_faults g.for j)
-    assign-first number word e = answered-first _ _ _ _ _ _ r assign-answer number word e
+    assign-first : (broken : Breach) → r ≡ Err broken → First (as_fault broken) (for_faults g.for j)
+    assign-first broken e = answered-first _ _ _ _ _ _ r assign-answer broken e
 
-    module _ (bool : ℕ) (end : ℕ) (e : r ≡ Typed bool end) where
+    module _ (end : ℕ) (e : r ≡ Ok end) where
       assign-fine : Fine (for_faults g.for j) code mid (b + 1) g.for.z end (ForWritten g.for (cells_of mid))
-      assign-fine = answered-fine _ _ _ _ _ _ r assign-answer bool end e
+      assign-fine = answered-fine _ _ _ _ _ _ r assign-answer end e
 
       module _ (w : ℕ) (ew : w ≡ head_at (cells_of mid) i) (after : List ℕ) (l : Linked mid after i (op_in w + 4) (value_in w) (end + 2)) where
         head-same : w ≡ head_at (cells_of code) i
@@ -270,40 +271,40 @@ module _ (code values : List ℕ) (undo : Bool) (i b : ℕ) (g : CallAssigns cod
             }
 
     -- room for what is written
-    pub assign-room : (bool : ℕ) (end : ℕ) → r ≡ Typed bool end → (end + 2 < link_part) × (i * 8 + 8 ≤ length mid)
-    assign-room bool end e =
-        (omega (arith, (assign-fine bool end e).next-is, g.for.unread.loaded.last), omega (arith, (assign-fine bool end e).kept.long, g.before, assign-on, g.for.unread.loaded.room))
+    pub assign-room : (end : ℕ) → r ≡ Ok end → (end + 2 < link_part) × (i * 8 + 8 ≤ length mid)
+    assign-room end e =
+        (omega (arith, (assign-fine end e).next-is, g.for.unread.loaded.last), omega (arith, (assign-fine end e).kept.long, g.before, assign-on, g.for.unread.loaded.room))
 
-    pub assign-op : (w : ℕ) → w ≡ head_at (cells_of mid) i → (bool : ℕ) (end : ℕ) → r ≡ Typed bool end → op_in w + 4 < value_part
-    assign-op w ew bool end e =
-        let h : op_in w ≡ a_target + g.target.k = ap op_in (ew ∙ head-below (assign-fine bool end e).kept i (omega (arith, g.before))) ∙ g.target.op-is in
+    pub assign-op : (w : ℕ) → w ≡ head_at (cells_of mid) i → (end : ℕ) → r ≡ Ok end → op_in w + 4 < value_part
+    assign-op w ew end e =
+        let h : op_in w ≡ a_target + g.target.k = ap op_in (ew ∙ head-below (assign-fine end e).kept i (omega (arith, g.before))) ∙ g.target.op-is in
         omega (arith, h, aims-few g.for.around.known.m g.for.around.known.n (cells_of code) g.target.k g.target.v _ i b g.target.aims)
 
-module _ (code values : List ℕ) (undo : Bool) (wants : ℕ) (i b : ℕ) (mid : List ℕ) (r : Judged) (f : ForJudged code values mid undo wants (b + 1) r) where
-  pub call-faulty : (number word : ℕ) → r ≡ Faulty number word → CallAssigned code values mid undo wants i b r
-  call-faulty number word e = record {
-    is = λ g j ty. answer-first _ code mid i (g.for.z + 2) _ r number word e (assign-answer code values undo i b g wants j ty mid r f).long (assign-first code values undo i b g wants j ty mid r f number word e);
+module _ (code values : List ℕ) (undo : Bool) (wants : ValueType) (i b : ℕ) (mid : List ℕ) (r : Stepped) (f : ForJudged code values mid undo wants (b + 1) r) where
+  pub call-faulty : (broken : Breach) → r ≡ Err broken → CallAssigned code values mid undo wants i b r
+  call-faulty broken e = record {
+    is = λ g j ty. answer-first _ code mid i (g.for.z + 2) _ r broken e (assign-answer code values undo i b g wants j ty mid r f).long (assign-first code values undo i b g wants j ty mid r f broken e);
   }
 
-  pub call-typed : (bool : ℕ) (end : ℕ) → r ≡ Typed bool end → (w : ℕ) → w ≡ head_at (cells_of mid) i → (after : List ℕ) → Linked mid after i (op_in w + 4) (value_in w) (end + 2)
-      → CallAssigned code values after undo wants i b (Typed bool (end + 2))
-  call-typed bool end e w ew after l = record {
-    is = λ g j ty. answer-fine _ code after i (g.for.z + 2) _ bool (end + 2) (call-assigned code values undo i b g wants j ty mid r f bool end e w ew after l);
+  pub call-typed : (end : ℕ) → r ≡ Ok end → (w : ℕ) → w ≡ head_at (cells_of mid) i → (after : List ℕ) → Linked mid after i (op_in w + 4) (value_in w) (end + 2)
+      → CallAssigned code values after undo wants i b (Ok (end + 2))
+  call-typed end e w ew after l = record {
+    is = λ g j ty. answer-fine _ code after i (g.for.z + 2) _ (end + 2) (call-assigned code values undo i b g wants j ty mid r f end e w ew after l);
   }
 
 -- room for what is written
-module _ (code values : List ℕ) (undo : Bool) (wants : ℕ) (i b : ℕ) (g : CallAssigns code values undo i b) (mid : List ℕ) (r : Judged) (f : ForJudged code values mid undo wants (b + 1) r) (bool end : ℕ) (e : r ≡ Typed bool end) (k : IsType wants) where
+module _ (code values : List ℕ) (undo : Bool) (wants : ValueType) (i b : ℕ) (g : CallAssigns code values undo i b) (mid : List ℕ) (r : Stepped) (f : ForJudged code values mid undo wants (b + 1) r) (end : ℕ) (e : r ≡ Ok end) where
   -- any target of the type
   of-type-wanted : types.Judged
-  of-type-wanted = record { type = k.type; faults = []; term = literal (pos 0) }
+  of-type-wanted = record { type = type_in wants; faults = []; term = literal (pos 0) }
 
   pub assign-fits : (end + 2 < link_part) × (i * 8 + 8 ≤ length mid)
   unfolding of-type-wanted
-  assign-fits = assign-room code values undo i b g wants of-type-wanted k.is mid r f bool end e
+  assign-fits = assign-room code values undo i b g wants of-type-wanted refl mid r f end e
 
   pub assign-next : Fits w64 (end + 2)
   assign-next = record { fits = omega (arith, assign-fits.0) }
 
   pub assign-op-fits : (w : ℕ) → w ≡ head_at (cells_of mid) i → op_in w + 4 < value_part
   unfolding of-type-wanted
-  assign-op-fits w ew = assign-op code values undo i b g wants of-type-wanted k.is mid r f w ew bool end e
+  assign-op-fits w ew = assign-op code values undo i b g wants of-type-wanted refl mid r f w ew end e

@@ -1,30 +1,34 @@
 -- Names, types and words by simple tests.
-use mathlib.Core.Path.{◌≡◌, sym, ◌∙◌, refl, ap}
+use mathlib.Core.Path.{◌≡◌, sym, ◌∙◌, refl, ap, ap₂}
 use mathlib.Core.Bool.{Bool, true, false, not}
 use mathlib.Core.List.{List}
-use Prim.Native.Nat.{ℕ, suc, ◌+◌, ◌/◌, ◌%◌, ◌<◌, ◌≤◌}
+use Prim.Native.Nat.{ℕ, suc, ◌+◌, ◌<◌, ◌≤◌}
 use native.Mathlib.Omega.{arith}
 use lib.Dec.{eqb}
 use borrow.Author.Tests.{ne_eqb, eqb-true, eqb-false}
-use Rattle.laws.proofs.Tests.{by-same, false-true}
-use Rattle.paper.specs.Sorts.{NUM, FUNC, NAME, open_paren}
+use Rattle.laws.proofs.Tests.{by-same}
+use Rattle.paper.specs.Sorts.{FUNC, NAME, open_paren}
 use Rattle.paper.specs.Names.{type_of, wrong_name}
 use Rattle.paper.specs.Types.{differs}
 use Rattle.code.specs.Cells.{op_at, op_in, value_in}
 use Rattle.code.specs.Signatures.{first_parameter}
 use Rattle.check_names.specs.Meanings.{meaning_with}
 use Rattle.check_simple.specs.Parts.{WrongName, said_type, TypeDiffers, IsCall}
-use Rattle.layout.specs.Rules.{unknown_name, wrong_kind}
+use Rattle.layout.specs.Rules.{unknown_name}
+use Rattle.layout.specs.declared.rules.Rule.TheVariants.{UnknownName, WrongKind}
 use Rattle.layout.specs.Kinds.{an_error_number, a_variable, an_array, a_constant, a_loop, a_routine, an_errno}
 use Rattle.check_names.specs.Promises.{TypeNamed}
-use Rattle.layout.proofs.Typing.{same-types, types-differ}
+use denote.Enum.Bare.{sameb}
+use Rattle.layout.specs.contracts.types.ValueType.{the_type}
+use Rattle.layout.specs.declared.types.ValueType.{ValueType}
 use Rattle.layout.specs.Types.{type_in}
+use Rattle.layout.proofs.Typing.{types-differ}
+use Rattle.check_expressions.proofs.FaultsOfParts.{differs-same}
+use Rattle.check_expressions.proofs.TypesCompared.{told-apart, told-same}
 use Rattle.paper.specs.Names.{DataType, a_num, a_bool, refused_piece}
-use Rattle.laws.proofs.Tests.{test}
-use mathlib.Core.Option.{some}
 
 -- ---- names of a wrong kind
-pub wrong-none : (kind : ℕ) → kind ≡ 0 → WrongName kind unknown_name
+pub wrong-none : (kind : ℕ) → kind ≡ 0 → WrongName kind UnknownName
 unfolding meaning_with wrong_name
 wrong-none kind e = record { is = λ routine bool own value. rw e }
 
@@ -42,29 +46,29 @@ unknown-kind kind h routine bool own value =
       meaning_with,
     )
 
-pub wrong-high : (kind : ℕ) → an_error_number < kind → WrongName kind unknown_name
+pub wrong-high : (kind : ℕ) → an_error_number < kind → WrongName kind UnknownName
 wrong-high kind h = record { is = unknown-kind kind h }
 
 above : (k n : ℕ) → n ≤ k → (k ≡ n → ⊥) → suc n ≤ k
 above k n h d = omega (arith, h, d)
 
-pub wrong-other : (kind : ℕ) → (kind ≡ 0 → ⊥) → kind ≤ an_error_number → WrongName kind wrong_kind
+pub wrong-other : (kind : ℕ) → 1 ≤ kind → kind ≤ an_error_number → WrongName kind WrongKind
 unfolding meaning_with wrong_name
-wrong-other kind z h = from_one (above kind 0 (omega arith) z)
+wrong-other kind z h = from_one z
   where
-    from-five : 5 ≤ kind → WrongName kind wrong_kind
+    from-five : 5 ≤ kind → WrongName kind WrongKind
     from-five l =
         by-same kind a_routine (λ e. record { is = λ routine bool own value. rw e })
         (λ a. by-same kind an_errno (λ e. record { is = λ routine bool own value. rw e })
         (λ b. let m = above kind an_errno (above kind a_routine l a) b in let e : kind ≡ an_error_number = omega (arith, m, h) in record { is = λ routine bool own value. rw e }))
 
-    from-three : 3 ≤ kind → WrongName kind wrong_kind
+    from-three : 3 ≤ kind → WrongName kind WrongKind
     from-three l =
         by-same kind a_constant (λ e. record { is = λ routine bool own value. rw e })
         (λ a. by-same kind a_loop (λ e. record { is = λ routine bool own value. rw e })
         (λ b. from-five (above kind a_loop (above kind a_constant l a) b)))
 
-    from_one : 1 ≤ kind → WrongName kind wrong_kind
+    from_one : 1 ≤ kind → WrongName kind WrongKind
     from_one l =
         by-same kind a_variable (λ e. record { is = λ routine bool own value. rw e })
         (λ a. by-same kind an_array (λ e. record { is = λ routine bool own value. rw e })
@@ -77,34 +81,27 @@ refused-same a_num = refl
 refused-same a_bool = refl
 refused-same refused_piece = refl
 
-same-differ : (t : DataType) → differs t t ≡ false
-unfolding differs
-same-differ a_num = refl
-same-differ a_bool = refl
-same-differ refused_piece = refl
-
-pub differs-unasked : (w type : ℕ) → (value_in w ≡ 0 → ⊥) → TypeDiffers w type false
+pub differs-unasked : (w : ℕ) (type : ValueType) → (value_in w ≡ 0 → ⊥) → TypeDiffers w type (eqb (value_in w) 0)
 unfolding said_type differs
 differs-unasked w type h = record { is = λ t e. rw (ne_eqb (value_in w) 0 h, said_type) (refused-same t) }
 
-module _ (w type : ℕ) (h : value_in w ≡ 0) (r : ℕ) (n : TypeNamed (op_in w) r) where
+module _ (w : ℕ) (type : ValueType) (h : value_in w ≡ 0) (r : ValueType) (n : TypeNamed (op_in w) r) where
   said : said_type w ≡ type_of (op_in w)
   unfolding said_type
   said = rw (h, said_type)
 
-  pub differs-asked : (b : Bool) → b ≡ not (eqb r type) → TypeDiffers w type b
-  differs-asked b e = record {
-    is = λ t q.
-        ap (λ (x : DataType). differs x t) said
-        ∙ test (eqb r type)
-        (λ z. ap (λ (x : DataType). differs x t) (same-types r type (type_of (op_in w)) t n.is q (eqb-true r type z)) ∙ same-differ t ∙ sym (e ∙ ap not z))
-        (λ z. types-differ r type (type_of (op_in w)) t n.is q (eqb-false r type z) ∙ sym (e ∙ ap not z));
-  }
+  -- as the paper has them
+  both : (t : DataType) → type_in type ≡ t → differs (said_type w) t ≡ differs (type_in r) (type_in type)
+  both t q = ap₂ differs (said ∙ sym n.is) (sym q)
+
+  pub differs-asked : (b : Bool) → b ≡ not (sameb the_type r type) → TypeDiffers w type b
+  differs-asked true e = record { is = λ t q. both t q ∙ types-differ r type (told-apart r type e) }
+  differs-asked false e = record { is = λ t q. both t q ∙ ap (λ (x : ValueType). differs (type_in x) (type_in type)) (told-same r type e) ∙ differs-same (type_in type) }
 
 -- ---- words
 module _ (C : List ℕ) (at s : ℕ) (e : s ≡ op_at C at) where
-  pub call-not : (s ≡ NAME → ⊥) → IsCall C at false
-  call-not d = record { yes = λ t. false-true t; no = λ _ n. absurd (d (e ∙ n)) }
+  pub call-not : (s ≡ NAME → ⊥) → IsCall C at (eqb s NAME)
+  call-not d = record { yes = λ t. absurd (d (eqb-true s NAME t)); no = λ _ n. absurd (d (e ∙ n)) }
 
   pub call-is : s ≡ NAME → (r : ℕ) → r ≡ op_at C (at + 1) → IsCall C at (eqb r open_paren)
   call-is n r q = record {

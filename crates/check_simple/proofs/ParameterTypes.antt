@@ -11,15 +11,18 @@ use Rattle.store_cells.specs.Cells.{cells_of}
 use Rattle.code.specs.Cells.{head_at}
 use Rattle.code.specs.Signatures.{type_at}
 use Rattle.climb.proofs.Places.{spans-first, stands}
-use Rattle.check_expressions.specs.declared.Judged.{Judged}
-use Rattle.check_expressions.specs.declared.Judged.TheVariants.{Typed, Faulty}
+use Rattle.check_expressions.specs.Judgements.{Judged}
+use Rattle.std.specs.Prelude.{Ok, Err}
+use Rattle.layout.specs.Broken.{as_fault}
+use Rattle.layout.specs.declared.rules.Breach.{Breach}
+use Rattle.layout.specs.declared.rules.Rule.TheVariants.{WrongType}
 use Rattle.check_expressions.specs.Answers.{SaysUnder, Judges, Checked}
 use Rattle.check_expressions.proofs.FaultsOfParts.{wanted-first}
 use Rattle.check_expressions.proofs.Around.{says_typed, says-faulty}
 use Rattle.check_simple.specs.Parts.{said_type, TypeDiffers, passed, Passed}
 use Rattle.layout.specs.Rules.{wrong_type}
 use Rattle.layout.specs.Types.{type_in}
-use mathlib.Core.Option.{some}
+use Rattle.layout.specs.declared.types.ValueType.{ValueType}
 
 pub type-at : (C : List ℕ) (p asked : ℕ) → asked ≡ head_at C p → said_type asked ≡ type_at C p
 unfolding said_type type_at
@@ -34,29 +37,29 @@ unfolding wanted fault_if
 wanted-bad t i j n d = rw (n, d, wanted)
 
 module _ (code values after : List ℕ) (p at asked : ℕ) (e : asked ≡ head_at (cells_of code) p) (r : Judged) (c : Checked code values after false 5 at r) where
-  pub passed-faulty : (number word : ℕ) → r ≡ Faulty number word → Passed code values after p at r
+  pub passed-faulty : (broken : Breach) → r ≡ Err broken → Passed code values after p at r
   unfolding SaysUnder
-  passed-faulty number word q = record {
+  passed-faulty broken q = record {
     is = λ s.
         let j = judge s.known.W false s.known.S s.e in
         let t = type_at (cells_of code) p in
-        let f = says-faulty _ _ _ _ _ _ r number word q (c.is s).says in
+        let f = says-faulty _ _ _ _ _ _ r broken q (c.is s).says in
         subst (Judges s.known.m s.known.n code after at s.to (passed t (first s.e) j)) (sym q)
         (record {
           says = record {
             others = f.others ++ fault_if (differs t j.type) wrong_type (first s.e);
-            faults-are = wanted-first t (first s.e) j (record { number = number; at = word }) f.others f.faults-are;
+            faults-are = wanted-first t (first s.e) j (as_fault broken) f.others f.faults-are;
           };
           kept = (c.is s).kept;
           low = (c.is s).low;
         });
   }
 
-  module _ (bool end : ℕ) (q : r ≡ Typed bool end) (t : Bool) (d : TypeDiffers asked bool t) where
-    differs-is : (x : DataType) → type_in bool ≡ some x → differs (type_at (cells_of code) p) x ≡ t
+  module _ (bool : ValueType) (end : ℕ) (q : r ≡ Ok (bool, end)) (t : Bool) (d : TypeDiffers asked bool t) where
+    differs-is : (x : DataType) → type_in bool ≡ x → differs (type_at (cells_of code) p) x ≡ t
     differs-is x z = sym (ap (λ (y : DataType). differs y x) (type-at (cells_of code) p asked e)) ∙ d.is x z
 
-    pub passed-wrong : t ≡ true → Passed code values after p at (Faulty wrong_type at)
+    pub passed-wrong : t ≡ true → Passed code values after p at (Err (record { rule = WrongType; word = at }))
     unfolding SaysUnder fault
     passed-wrong y = record {
       is = λ s.
@@ -73,7 +76,7 @@ module _ (code values after : List ℕ) (p at asked : ℕ) (e : asked ≡ head_a
           };
     }
 
-    pub passed-right : t ≡ false → Passed code values after p at (Typed bool end)
+    pub passed-right : t ≡ false → Passed code values after p at (Ok (bool, end))
     unfolding SaysUnder
     passed-right y = record {
       is = λ s.

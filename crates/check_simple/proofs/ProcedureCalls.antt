@@ -16,8 +16,9 @@ use Rattle.code.specs.Steps.{numbered, a_procedure_call, a_close}
 use Rattle.grammar.specs.Form.{Parses}
 use Rattle.grammar.proofs.Places.{arguments-grow}
 use Rattle.grammar.proofs.Inversions as inversions
-use Rattle.check_expressions.specs.declared.Judged.{Judged}
-use Rattle.check_expressions.specs.declared.Judged.TheVariants.{Typed, Faulty}
+use Rattle.std.specs.Prelude.{Ok, Err}
+use Rattle.layout.specs.Broken.{as_fault, number_of}
+use Rattle.layout.specs.declared.rules.Breach.{Breach}
 use Rattle.store_writing.specs.Promises.{Linked}
 use Rattle.store_writing.proofs.Keeping.{head-below, place-below, kept-wider, kept_on}
 use Rattle.faults.specs.First.{First}
@@ -25,12 +26,10 @@ use Rattle.faults.proofs.First.{first-fault, first-left, first-right, leads-late
 use Rattle.faults.proofs.Expressions.{grows}
 use Rattle.faults.proofs.Statements.{arguments-inside}
 use Rattle.check_links.specs.Raw.{RawArguments, RawDoes}
-use Rattle.check_simple.specs.declared.Callee.{Callee}
-use Rattle.check_simple.specs.declared.Callee.TheVariants.{At, Wrong}
 use Rattle.check_around.specs.Around.{ground_of}
-use Rattle.check_around.specs.Answers.{Fine, Answer}
+use Rattle.check_around.specs.Answers.{Fine, Stepped, Answer}
 use Rattle.check_simple.specs.Answers.{Answers}
-use Rattle.check_simple.specs.Parts.{CallsOf, CalledOf, Callees, CalleeFound, CalleeSays, CalleeTold, ArgumentsStand, CallSide, side_faults, CallWritten, CallJudged}
+use Rattle.check_simple.specs.Parts.{CallsOf, CalledOf, Callee, Callees, CalleeFound, CalleeSays, CalleeTold, ArgumentsStand, CallSide, side_faults, CallWritten, CallJudged}
 use Rattle.check_simple.proofs.Expressions.{quiet-below, answered-fine, answered-first}
 use Rattle.check_simple.proofs.Arguments.{link-below, unread-part}
 use Rattle.check_simple.proofs.Calls.{raw-arguments, read_below}
@@ -76,17 +75,17 @@ module _ (code values : List ℕ) (undo : Bool) (i : ℕ) (c : CallsOf code valu
     unfolding of-callees
     of-says = t.is of-callees
 
-    of-wrong-first : (number : ℕ) → r ≡ Wrong number
-        → First (record { number = number; at = i }) (simple_faults c.begins.stands.around.known.W c.begins.stands.around.K c.begins.stands.around.known.S (call i of_calls.es))
+    of-wrong-first : (broken : Breach) → r ≡ Err broken
+        → First (as_fault broken) (simple_faults c.begins.stands.around.known.W c.begins.stands.around.K c.begins.stands.around.known.S (call i of_calls.es))
     unfolding simple_faults call_faults
-    of-wrong-first number e =
-        let w = told-wrong c.begins.stands.around code false i r number e of-says in
+    of-wrong-first broken e =
+        let w = told-wrong c.begins.stands.around code false i r broken e of-says in
         first-left
-        (first-right (leads-same-if (record { number = number; at = i }) _ barred i refl (ranks number barred (omega arith) (omega (arith, w.low))))
-        (subst (First (record { number = number; at = i })) (sym (w.is of_calls.es)) (first-fault number i)))
-        (leads-later (record { number = number; at = i }) (arguments-inside c.begins.stands.around.known.W c.begins.stands.around.known.S _ of_calls.arguments) (omega arith))
+        (first-right (leads-same-if (as_fault broken) _ barred i w.at (ranks (number_of broken.rule) barred (omega arith) (omega (arith, w.low))))
+        (subst (First (as_fault broken)) (sym (w.is of_calls.es)) (first-fault (number_of broken.rule) broken.word)))
+        (leads-later (as_fault broken) (arguments-inside c.begins.stands.around.known.W c.begins.stands.around.known.S _ of_calls.arguments) (omega (arith, w.at)))
 
-    module _ (h : ℕ) (e : r ≡ At h) where
+    module _ (h : ℕ) (e : r ≡ Ok h) where
       of-found : CalleeFound (numbered c.begins.stands.around.R) (length c.begins.stands.around.R) code (meaning c.begins.stands.around.known.S (spelled c.begins.stands.around.known.W i)) false h
       of-found = told-found c.begins.stands.around code false i r h e of-says
 
@@ -117,24 +116,24 @@ module _ (code values : List ℕ) (undo : Bool) (i : ℕ) (c : CallsOf code valu
           (found-faults c.begins.stands.around code i c.begins.stands.to false h of-found c.begins.stands.calls of_calls.es))
           (found-signature c.begins.stands.around code i c.begins.stands.to false h of-found c.begins.stands.calls)
 
-      module _ (mid : List ℕ) (q : Judged) (j : CallJudged code values mid undo a_procedure_call h i (i + 1) 4 q) where
+      module _ (mid : List ℕ) (q : Stepped) (j : CallJudged code values mid undo a_procedure_call h i (i + 1) 4 q) where
         of-answer : Answer mine code mid i c.begins.stands.to (CallWritten of-side (cells_of mid) a_procedure_call) q
         unfolding of-side
         of-answer = j.is of-side
 
-        of-faulty : (number word : ℕ) → q ≡ Faulty number word → Answers c.begins.stands mid q
-        of-faulty number word x =
-            stated-first code values i c.begins.stands (call i of_calls.es) of_calls.is mid q number word x of-answer.long
-            (subst (First (record { number = number; at = word })) (sym of-faults) (answered-first _ _ _ _ _ _ q of-answer number word x))
+        of-faulty : (broken : Breach) → q ≡ Err broken → Answers c.begins.stands mid q
+        of-faulty broken x =
+            stated-first code values i c.begins.stands (call i of_calls.es) of_calls.is mid q broken x of-answer.long
+            (subst (First (as_fault broken)) (sym of-faults) (answered-first _ _ _ _ _ _ q of-answer broken x))
 
-        module _ (bool : ℕ) (end : ℕ) (x : q ≡ Typed bool end) where
+        module _ (end : ℕ) (x : q ≡ Ok end) where
           of-fine : Fine mine code mid i c.begins.stands.to end (CallWritten of-side (cells_of mid) a_procedure_call)
-          of-fine = answered-fine _ _ _ _ _ _ q of-answer bool end x
+          of-fine = answered-fine _ _ _ _ _ _ q of-answer end x
 
           pub of_end : (end < word_limit) × (end * 8 + 8 ≤ length mid)
           of_end = (omega (arith, of-fine.next-is, c.begins.stands.unread.loaded.last), omega (arith, of-fine.next-is, c.begins.stands.unread.loaded.room, of-answer.long))
 
-          of-typed : (after : List ℕ) → Linked mid after end a_close 0 (end + 1) → Answers c.begins.stands after (Typed bool (end + 1))
+          of-typed : (after : List ℕ) → Linked mid after end a_close 0 (end + 1) → Answers c.begins.stands after (Ok (end + 1))
           unfolding RawDoes of-side
           of-typed after m =
               let s = c.begins.stands in
@@ -145,7 +144,7 @@ module _ (code values : List ℕ) (undo : Bool) (i : ℕ) (c : CallsOf code valu
               let w = of-fine.written in
               let link = link-below l.kept i (stands_on code values i s) in
               let place = place-below l.kept i (stands_on code values i s) ∙ w.place in
-              stated-fine code values i s (call i of_calls.es) of_calls.is after bool (end + 1) (of-faults ∙ of-fine.none) (ap (λ (z : ℕ). z + 1) to_is)
+              stated-fine code values i s (call i of_calls.es) of_calls.is after (end + 1) (of-faults ∙ of-fine.none) (ap (λ (z : ℕ). z + 1) to_is)
               (kept_on (kept-wider of-fine.kept i (s.to + 1) (omega arith) (omega arith)) (kept-wider l.kept i (s.to + 1) (omega (arith, of-on)) (omega arith)))
               place
               (record {
@@ -162,16 +161,16 @@ module _ (code values : List ℕ) (undo : Bool) (i : ℕ) (c : CallsOf code valu
               })
 
 module _ (code values : List ℕ) (undo : Bool) (i : ℕ) (r : Callee) (t : CalleeTold code values false i r) where
-  pub called-of-wrong : (number : ℕ) → r ≡ Wrong number → CalledOf code values code undo i (Faulty number i)
-  called-of-wrong number e = record {
+  pub called-of-wrong : (broken : Breach) → r ≡ Err broken → CalledOf code values code undo i (Err broken)
+  called-of-wrong broken e = record {
     is = λ c.
-        stated-first code values i c.begins.stands (call i (of_calls code values undo i c).es) (of_calls code values undo i c).is code (Faulty number i) number i refl refl
-        (of-wrong-first code values undo i c r t number e);
+        stated-first code values i c.begins.stands (call i (of_calls code values undo i c).es) (of_calls code values undo i c).is code (Err broken) broken refl refl
+        (of-wrong-first code values undo i c r t broken e);
   }
 
-  module _ (h : ℕ) (e : r ≡ At h) (mid : List ℕ) (q : Judged) (j : CallJudged code values mid undo a_procedure_call h i (i + 1) 4 q) where
-    pub called-of-faulty : (number word : ℕ) → q ≡ Faulty number word → CalledOf code values mid undo i q
-    called-of-faulty number word x = record { is = λ c. of-faulty code values undo i c r t h e mid q j number word x }
+  module _ (h : ℕ) (e : r ≡ Ok h) (mid : List ℕ) (q : Stepped) (j : CallJudged code values mid undo a_procedure_call h i (i + 1) 4 q) where
+    pub called-of-faulty : (broken : Breach) → q ≡ Err broken → CalledOf code values mid undo i q
+    called-of-faulty broken x = record { is = λ c. of-faulty code values undo i c r t h e mid q j broken x }
 
-    pub called-of-typed : (bool : ℕ) (end : ℕ) → q ≡ Typed bool end → (after : List ℕ) → Linked mid after end a_close 0 (end + 1) → CalledOf code values after undo i (Typed bool (end + 1))
-    called-of-typed bool end x after l = record { is = λ c. of-typed code values undo i c r t h e mid q j bool end x after l }
+    pub called-of-typed : (end : ℕ) → q ≡ Ok end → (after : List ℕ) → Linked mid after end a_close 0 (end + 1) → CalledOf code values after undo i (Ok (end + 1))
+    called-of-typed end x after l = record { is = λ c. of-typed code values undo i c r t h e mid q j end x after l }

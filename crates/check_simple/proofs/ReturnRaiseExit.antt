@@ -3,15 +3,14 @@ use mathlib.Core.Path.{◌≡◌, refl, sym, ap, ap₂, subst, ◌∙◌}
 use mathlib.Core.Bool.{Bool, true, false, not, ◌||◌}
 use mathlib.Core.List.{List, [], ◌++◌}
 use mathlib.Core.Option.{Option, none, some}
-use Prim.Native.Nat.{ℕ, suc, ◌+◌, ◌*◌, ◌<◌, ◌≤◌}
+use Prim.Native.Nat.{ℕ, suc, ◌+◌}
 use native.Mathlib.Omega.{arith}
-use lib.Dec.{eqb}
 use lib.ListN.{length}
-use borrow.Author.Tests.{eq-eqb, ne_eqb, eqb-true, eqb-false, not-true, not-false}
+use borrow.Author.Tests.{not-true, not-false}
 use Rattle.laws.proofs.Tests.{test}
 use Rattle.paper.specs.Trees.{Expr, Simple, returns, raises, exits, retries, tries_next}
 use Rattle.paper.specs.Expressions.{nestings}
-use Rattle.paper.specs.Words.{Word, word_limit}
+use Rattle.paper.specs.Words.{Word}
 use Rattle.paper.specs.Names.{DataType, a_num, Scopes, sort_in}
 use Rattle.paper.specs.Types.{Fault, fault, fault_if, faults_of, of_type}
 use Rattle.paper.specs.Checks.{is_some, in_error, in_undo, return_faults, simple_faults}
@@ -20,8 +19,11 @@ use Rattle.store_cells.specs.Cells.{cells_of}
 use Rattle.code.specs.Cells.{op_at}
 use Rattle.grammar.specs.Form.{Parses, ExprAt, OptionalAt, no_value, a-value}
 use Rattle.grammar.proofs.Inversions.{WithOptional, Given, Alone, simple-return, simple-raise, simple-exit, simple-retry, simple-trynext, optional-none, optional-some}
-use Rattle.check_expressions.specs.declared.Judged.{Judged}
-use Rattle.check_expressions.specs.declared.Judged.TheVariants.{Faulty}
+use Rattle.check_around.specs.Answers.{Stepped}
+use Rattle.std.specs.Prelude.{Err, Some, None}
+use Rattle.std.specs.Prelude as prelude
+use Rattle.std.specs.Option as options
+use Rattle.layout.specs.declared.rules.Rule.TheVariants.{Barred}
 use Rattle.store_writing.proofs.Keeping.{kept-wider}
 use Rattle.check_expressions.proofs.Starts.{loaded-part}
 use Rattle.faults.specs.First.{Inside, Leads, First}
@@ -29,20 +31,21 @@ use Rattle.faults.proofs.First.{first-fault, first-if, first-left, leads-later}
 use Rattle.faults.proofs.Expressions.{faults-of-inside, of-type-inside}
 use Rattle.check_links.specs.Raw.{RawWord, RawValued, RawDoes}
 use Rattle.check_around.specs.declared.Setting.{Setting}
-use Rattle.check_around.specs.Around.{ground_of, body_list, handler_list, undo_list, Tells}
-use Rattle.check_around.proofs.WhichLists.{in-handler, in-undo, in-body}
+use Rattle.check_around.specs.Around.{ground_of, Tells}
+use Rattle.check_around.proofs.WhichLists.{is_body, is_handler, is_undo, in-handler, in-undo, in-body}
 use Rattle.check_simple.specs.Answers.{Stands, Answers, Statement, Stated}
 use Rattle.check_simple.specs.Parts.{BeginsIn, BegunIn, Values, Valued}
 use Rattle.check_simple.specs.Parts as parts
 use Rattle.check_simple.proofs.SimpleStatements.{stands_on, stands-sort, stated-first, stated-fine, stated-on}
 use Rattle.code.specs.Steps.{a_return_of, a_return, a_raise_of, a_raise, an_exit, a_retry, a_try_next}
 use Rattle.layout.specs.Rules.{barred}
-use Rattle.layout.specs.Types.{no_type, num_type, type_in, IsType}
-use Rattle.layout.proofs.Typing.{num-in}
+use Rattle.layout.specs.Types.{type_in, given_back}
+use Rattle.layout.specs.declared.types.ValueType.{ValueType}
+use Rattle.layout.specs.declared.types.ValueType.TheVariants.{Num}
 use Rattle.paper.specs.Sorts.{semicolon, EXIT, RAISE, RETRY, RETURN, TRYNEXT}
 
 -- ---- one word
-module _ (code values : List ℕ) (at : ℕ) (g : Stands code values at) (s : Simple) (is : g.s ≡ s) (one : g.to ≡ at + 1) (op : ℕ) (fine : Bool) (after : List ℕ) (r : Judged) (a : parts.Alone code after op fine at r) where
+module _ (code values : List ℕ) (at : ℕ) (g : Stands code values at) (s : Simple) (is : g.s ≡ s) (one : g.to ≡ at + 1) (op : ℕ) (fine : Bool) (after : List ℕ) (r : Stepped) (a : parts.Alone code after op fine at r) where
   -- where it may stand
   pub word-fine : fine ≡ true → simple_faults g.around.known.W g.around.K g.around.known.S s ≡ []
       → (RawWord (cells_of after) op at (g.to + 1) → RawDoes (ground_of g.around) g.around.known.n (cells_of after) g.around.known.S s at (g.to + 1) (g.to + 1)) → Answers g after r
@@ -51,13 +54,13 @@ module _ (code values : List ℕ) (at : ℕ) (g : Stands code values at) (s : Si
       let l = y.0 in
       let two : at + 2 ≡ g.to + 1 = omega (arith, one) in
       subst (Answers g after) (sym y.1)
-      (stated-fine code values at g s is after no_type (at + 2) n two (kept-wider l.kept at (g.to + 1) (omega arith) (omega (arith, one))) l.place_is (d (record { is = l.op-is; leaves = l.link-is ∙ two })))
+      (stated-fine code values at g s is after (at + 2) n two (kept-wider l.kept at (g.to + 1) (omega arith) (omega (arith, one))) l.place_is (d (record { is = l.op-is; leaves = l.link-is ∙ two })))
 
   -- and where it may not: "17"
   pub word-broken : fine ≡ false → First (record { number = barred; at = at }) (simple_faults g.around.known.W g.around.K g.around.known.S s) → Answers g after r
   word-broken f x =
       let n = a.no f in
-      stated-first code values at g s is after r barred at n.1 (ap length n.0) x
+      stated-first code values at g s is after r _ n.1 (ap length n.0) x
 
 -- ---- an expression behind the first word
 module _ (code values : List ℕ) (at : ℕ) (g : Stands code values at) (e : Expr) (stands : ExprAt (sort_in g.around.known.W) (Parses (sort_in g.around.known.W)) e (at + 1) g.to) where
@@ -74,23 +77,19 @@ module _ (code values : List ℕ) (at : ℕ) (g : Stands code values at) (e : Ex
   }
 
 -- ---- the setting
-not-undo : (k : Setting) (K : checks.Setting) → Tells k K → (k.list ≡ undo_list → ⊥) → in_undo K.list ≡ false
-not-undo k K t d = sym (in-undo k.list K.list t.list) ∙ ne_eqb k.list undo_list d
+not-undo : (k : Setting) (K : checks.Setting) → Tells k K → is_undo k.list ≡ false → in_undo K.list ≡ false
+not-undo k K t d = sym (in-undo k.list K.list t.list) ∙ d
 
-result-none : (k : Setting) (K : checks.Setting) → Tells k K → k.result ≡ 0 → K.result ≡ none
-unfolding type_in
-result-none k K t e = t.result.is ∙ rw (e, type_in)
+result-none : (k : Setting) (K : checks.Setting) → Tells k K → k.result ≡ None → K.result ≡ none
+result-none k K t e = t.result.is ∙ ap given_back e
 
-record SomeType (o : Option DataType) : Type 0 where
-  type : DataType
-  is : o ≡ some type
+result-some : (k : Setting) (K : checks.Setting) → Tells k K → (type : ValueType) → k.result ≡ Some type → K.result ≡ some (type_in type)
+result-some k K t type e = t.result.is ∙ ap given_back e
 
-result-some : (k : Setting) (K : checks.Setting) → Tells k K → (k.result ≡ 0 → ⊥) → SomeType K.result
-result-some k K t d = by K.result (λ n. d (t.result.plain n))
-  where
-    by : (o : Option DataType) → (o ≡ none → ⊥) → SomeType o
-    by none f = absurd (f refl)
-    by (some x) f = record { type = x; is = refl }
+given-none : (o : prelude.Option ValueType) → options.is_none o ≡ not (is_some (given_back o))
+unfolding is_some
+given-none None = refl
+given-none (Some type) = refl
 
 proc-faults : (W : List Word) (K : checks.Setting) (S : Scopes) (i : ℕ) (e : Expr) → K.result ≡ none → simple_faults W K S (returns i (some e)) ≡ fault barred i ++ faults_of W S e
 unfolding simple_faults return_faults
@@ -130,7 +129,7 @@ module _ (code values : List ℕ) (i : ℕ) (g : Stands code values i) (make : �
   without e = optional-none (sort_in g.around.known.W) (Parses (sort_in g.around.known.W)) x.value (sym next-is ∙ e)
 
   -- the word alone, which may stand here or not
-  word-alone : s ≡ semicolon → (op : ℕ) (fine : Bool) (after : List ℕ) (r : Judged) → parts.Alone code after op fine i r
+  word-alone : s ≡ semicolon → (op : ℕ) (fine : Bool) (after : List ℕ) (r : Stepped) → parts.Alone code after op fine i r
       → (fine ≡ true → (faults none ≡ []) × (RawWord (cells_of after) op i (g.to + 1) → does (cells_of after) none)) → (fine ≡ false → First (record { number = barred; at = i }) (faults none))
       → Answers g after r
   word-alone e op fine after r a fits breaks =
@@ -149,17 +148,17 @@ module _ (code values : List ℕ) (i : ℕ) (g : Stands code values i) (make : �
     unfoldable given-values : Values code values (i + 1) i
     given-values = value-side code values i g given.e given.stands
 
-    given-broken : First (record { number = barred; at = i }) (faults (some given.e)) → Answers g code (Faulty barred i)
-    given-broken f = stated-first code values i g (make i (some given.e)) given_is code (Faulty barred i) barred i refl refl f
+    given-broken : First (record { number = barred; at = i }) (faults (some given.e)) → Answers g code (Err (record { rule = Barred; word = i }))
+    given-broken f = stated-first code values i g (make i (some given.e)) given_is code (Err (record { rule = Barred; word = i })) _ refl refl f
 
-    given-fine : (op wants : ℕ) (t : DataType) → type_in wants ≡ some t → faults (some given.e) ≡ of_type g.around.known.W t g.around.known.S given.e → (after : List ℕ)
+    given-fine : (op : ℕ) (wants : ValueType) (t : DataType) → type_in wants ≡ t → faults (some given.e) ≡ of_type g.around.known.W t g.around.known.S given.e → (after : List ℕ)
         → (RawValued (ground_of g.around) g.around.known.n (cells_of after) g.around.known.S op given.e (i + 1) i (g.to + 1) (g.to + 1) → does (cells_of after) (some given.e))
-        → (r : Judged) → Valued code values after op wants (i + 1) i r → Answers g after r
+        → (r : Stepped) → Valued code values after op wants (i + 1) i r → Answers g after r
     unfolding given-values value-side
     given-fine op wants t w fs after raw r v =
         stated-on code values i g (make i (some given.e)) given_is after _ code i (g.to + 1) _ r (v.is given-values t w) refl
         (λ y f. subst (First y) (sym fs) f)
-        (λ b next f. stated-fine code values i g (make i (some given.e)) given_is after b next (fs ∙ f.none) f.next-is f.kept (f.written.places i (omega arith) (omega arith)) (raw f.written.raw))
+        (λ next f. stated-fine code values i g (make i (some given.e)) given_is after next (fs ∙ f.none) f.next-is f.kept (f.written.places i (omega arith) (omega arith)) (raw f.written.raw))
 
 -- ---- RETURN
 module _ (k : Setting) (code values : List ℕ) (i : ℕ) (c : BeginsIn RETURN k code values i) where
@@ -169,29 +168,30 @@ module _ (k : Setting) (code values : List ℕ) (i : ℕ) (c : BeginsIn RETURN k
   return-is : WithOptional (sort_in g.around.known.W) (Parses (sort_in g.around.known.W)) returns g.s i g.to
   return-is = simple-return (sort_in g.around.known.W) (Parses (sort_in g.around.known.W)) g.is c.begins.here
 
-  return-undo : k.list ≡ undo_list → Answers g code (Faulty barred i)
+  return-undo : is_undo k.list ≡ true → Answers g code (Err (record { rule = Barred; word = i }))
   return-undo e =
-      let u : in_undo g.around.K.list ≡ true = sym (in-undo k.list g.around.K.list c.tells.list) ∙ eq-eqb k.list undo_list e in
-      stated-first code values i g (returns i return-is.e) return-is.is code (Faulty barred i) barred i refl refl
+      let u : in_undo g.around.K.list ≡ true = sym (in-undo k.list g.around.K.list c.tells.list) ∙ e in
+      stated-first code values i g (returns i return-is.e) return-is.is code (Err (record { rule = Barred; word = i })) _ refl refl
       (undo-faults g.around.known.W g.around.K g.around.known.S i u return-is.value)
 
-  allowed : (k.list ≡ undo_list → ⊥) → in_undo g.around.K.list ≡ false
+  allowed : is_undo k.list ≡ false → in_undo g.around.K.list ≡ false
   allowed may = not-undo k g.around.K c.tells may
 
-  pub return-type : (k.result ≡ 0 → ⊥) → IsType k.result
-  return-type z = let n = result-some k g.around.K c.tells z in record { type = n.type; is = sym c.tells.result.is ∙ n.is }
-
   module _ (s : ℕ) (es : s ≡ op_at (cells_of code) (i + 1)) where
-    return_alone : (k.list ≡ undo_list → ⊥) → s ≡ semicolon → (after : List ℕ) (r : Judged) → parts.Alone code after a_return (eqb k.result 0) i r → Answers g after r
-    unfolding simple_faults return_faults is_some RawDoes ground_of fault_if
-    return_alone may e after r a =
-        word-alone code values i g returns return-is s es e a_return (eqb k.result 0) after r a
+    -- nothing is given back exactly in a PROC
+    fine-in : (fine : Bool) → fine ≡ options.is_none k.result → fine ≡ not (is_some g.around.K.result)
+    fine-in fine ef = ef ∙ given-none k.result ∙ ap (λ (o : Option DataType). not (is_some o)) (sym c.tells.result.is)
+
+    return_alone : is_undo k.list ≡ false → s ≡ semicolon → (fine : Bool) → fine ≡ options.is_none k.result → (after : List ℕ) (r : Stepped) → parts.Alone code after a_return fine i r → Answers g after r
+    unfolding simple_faults return_faults RawDoes ground_of fault_if
+    return_alone may e fine ef after r a =
+        word-alone code values i g returns return-is s es e a_return fine after r a
         (λ t.
-        let n = result-none k g.around.K c.tells (eqb-true k.result 0 t) in
-        (ap₂ {C = List Fault} (λ (b : Bool) (o : Option DataType). fault_if (b || is_some o) barred i) (allowed may) n, λ w. record { word = w; no-function = ap is_some n }))
+        let n = not-true (is_some g.around.K.result) (sym (fine-in fine ef) ∙ t) in
+        (ap₂ {C = List Fault} (λ (b o : Bool). fault_if (b || o) barred i) (allowed may) n, λ w. record { word = w; no-function = n }))
         (λ t.
         first-if (in_undo g.around.K.list || is_some g.around.K.result) barred i
-        (ap₂ {C = Bool} (λ (b : Bool) (o : Option DataType). b || is_some o) (allowed may) (result-some k g.around.K c.tells (eqb-false k.result 0 t)).is))
+        (ap₂ {C = Bool} (λ (b o : Bool). b || o) (allowed may) (not-false (is_some g.around.K.result) (sym (fine-in fine ef) ∙ t))))
 
     module _ (d : s ≡ semicolon → ⊥) where
       pub return-values : Values code values (i + 1) i
@@ -200,35 +200,35 @@ module _ (k : Setting) (code values : List ℕ) (i : ℕ) (c : BeginsIn RETURN k
       abbrev return-given : Given (sort_in g.around.known.W) (Parses (sort_in g.around.known.W)) return-is.e (i + 1) g.to
       return-given = given code values i g returns return-is s es d
 
-      return-proc : k.result ≡ 0 → Answers g code (Faulty barred i)
+      return-proc : k.result ≡ None → Answers g code (Err (record { rule = Barred; word = i }))
       return-proc z =
           given-broken code values i g returns return-is s es d
           (subst (First (record { number = barred; at = i })) (sym (proc-faults g.around.known.W g.around.K g.around.known.S i return-given.e (result-none k g.around.K c.tells z)))
           (first-left (first-fault barred i) (leads-later (record { number = barred; at = i }) (faults-of-inside g.around.known.W (suc nestings) (i + 1) return-given.e g.to return-given.stands g.around.known.S) (omega arith))))
 
-      return-func : (k.list ≡ undo_list → ⊥) → (k.result ≡ 0 → ⊥) → (after : List ℕ) (r : Judged) → Valued code values after a_return_of k.result (i + 1) i r → Answers g after r
+      return-func : is_undo k.list ≡ false → (type : ValueType) → k.result ≡ Some type → (after : List ℕ) (r : Stepped) → Valued code values after a_return_of type (i + 1) i r → Answers g after r
       unfolding is_some RawDoes ground_of
-      return-func may z after r v =
-          let n = result-some k g.around.K c.tells z in
-          given-fine code values i g returns return-is s es d a_return_of k.result n.type (sym c.tells.result.is ∙ n.is)
-          (func-faults g.around.known.W g.around.K g.around.known.S i return-given.e n.type (allowed may) n.is) after
-          (λ w. record { valued = w; a-function = ap is_some n.is }) r v
+      return-func may type z after r v =
+          let n = result-some k g.around.K c.tells type z in
+          given-fine code values i g returns return-is s es d a_return_of type (type_in type) refl
+          (func-faults g.around.known.W g.around.K g.around.known.S i return-given.e (type_in type) (allowed may) n) after
+          (λ w. record { valued = w; a-function = ap is_some n }) r v
 
 -- what it answers
 module _ (k : Setting) (code values : List ℕ) (i : ℕ) where
-  pub returned-undo : k.list ≡ undo_list → BegunIn RETURN k code values code i (Faulty barred i)
+  pub returned-undo : is_undo k.list ≡ true → BegunIn RETURN k code values code i (Err (record { rule = Barred; word = i }))
   returned-undo e = record { is = λ c. return-undo k code values i c e }
 
   module _ (s : ℕ) (es : s ≡ op_at (cells_of code) (i + 1)) where
-    pub returned-alone : (k.list ≡ undo_list → ⊥) → s ≡ semicolon → (after : List ℕ) (r : Judged) → parts.Alone code after a_return (eqb k.result 0) i r → BegunIn RETURN k code values after i r
-    returned-alone may e after r a = record { is = λ c. return_alone k code values i c s es may e after r a }
+    pub returned-alone : is_undo k.list ≡ false → s ≡ semicolon → (fine : Bool) → fine ≡ options.is_none k.result → (after : List ℕ) (r : Stepped) → parts.Alone code after a_return fine i r → BegunIn RETURN k code values after i r
+    returned-alone may e fine ef after r a = record { is = λ c. return_alone k code values i c s es may e fine ef after r a }
 
     module _ (d : s ≡ semicolon → ⊥) where
-      pub returned-proc : k.result ≡ 0 → BegunIn RETURN k code values code i (Faulty barred i)
+      pub returned-proc : k.result ≡ None → BegunIn RETURN k code values code i (Err (record { rule = Barred; word = i }))
       returned-proc z = record { is = λ c. return-proc k code values i c s es d z }
 
-      pub returned-func : (k.list ≡ undo_list → ⊥) → (k.result ≡ 0 → ⊥) → (after : List ℕ) (r : Judged) → Valued code values after a_return_of k.result (i + 1) i r → BegunIn RETURN k code values after i r
-      returned-func may z after r v = record { is = λ c. return-func k code values i c s es d may z after r v }
+      pub returned-func : is_undo k.list ≡ false → (type : ValueType) → k.result ≡ Some type → (after : List ℕ) (r : Stepped) → Valued code values after a_return_of type (i + 1) i r → BegunIn RETURN k code values after i r
+      returned-func may type z after r v = record { is = λ c. return-func k code values i c s es d may type z after r v }
 
 -- ---- RAISE
 module _ (k : Setting) (code values : List ℕ) (i : ℕ) (c : BeginsIn RAISE k code values i) where
@@ -238,17 +238,17 @@ module _ (k : Setting) (code values : List ℕ) (i : ℕ) (c : BeginsIn RAISE k 
   raise-is : WithOptional (sort_in u.around.known.W) (Parses (sort_in u.around.known.W)) raises u.s i u.to
   raise-is = simple-raise (sort_in u.around.known.W) (Parses (sort_in u.around.known.W)) u.is c.begins.here
 
-  handles : eqb k.list handler_list ≡ in_error u.around.K.list
+  handles : is_handler k.list ≡ in_error u.around.K.list
   handles = in-handler k.list u.around.K.list c.tells.list
 
-  outside : eqb k.list body_list ≡ not (in_undo u.around.K.list || in_error u.around.K.list)
+  outside : is_body k.list ≡ not (in_undo u.around.K.list || in_error u.around.K.list)
   outside = in-body k.list u.around.K.list c.tells.list
 
   module _ (s : ℕ) (es : s ≡ op_at (cells_of code) (i + 1)) where
-    raise-alone : s ≡ semicolon → (after : List ℕ) (r : Judged) → parts.Alone code after a_raise (eqb k.list handler_list) i r → Answers u after r
+    raise-alone : s ≡ semicolon → (after : List ℕ) (r : Stepped) → parts.Alone code after a_raise (is_handler k.list) i r → Answers u after r
     unfolding simple_faults RawDoes fault_if
     raise-alone e after r a =
-        word-alone code values i u raises raise-is s es e a_raise (eqb k.list handler_list) after r a
+        word-alone code values i u raises raise-is s es e a_raise (is_handler k.list) after r a
         (λ t. (ap (λ (b : Bool). fault_if (not b) barred i) (sym handles ∙ t), λ w. w))
         (λ t. first-if (not (in_error u.around.K.list)) barred i (ap not (sym handles ∙ t)))
 
@@ -259,30 +259,30 @@ module _ (k : Setting) (code values : List ℕ) (i : ℕ) (c : BeginsIn RAISE k 
       abbrev raise-given : Given (sort_in u.around.known.W) (Parses (sort_in u.around.known.W)) raise-is.e (i + 1) u.to
       raise-given = given code values i u raises raise-is s es d
 
-      raise-barred : (k.list ≡ body_list → ⊥) → Answers u code (Faulty barred i)
+      raise-barred : is_body k.list ≡ false → Answers u code (Err (record { rule = Barred; word = i }))
       unfolding simple_faults
       raise-barred z =
           given-broken code values i u raises raise-is s es d
-          (first-left (first-if (in_undo u.around.K.list || in_error u.around.K.list) barred i (not-false _ (sym outside ∙ ne_eqb k.list body_list z)))
+          (first-left (first-if (in_undo u.around.K.list || in_error u.around.K.list) barred i (not-false _ (sym outside ∙ z)))
           (leads-later (record { number = barred; at = i }) (of-type-inside u.around.known.W (suc nestings) (i + 1) raise-given.e u.to raise-given.stands a_num u.around.known.S) (omega arith)))
 
-      raise-number : k.list ≡ body_list → (after : List ℕ) (r : Judged) → Valued code values after a_raise_of num_type (i + 1) i r → Answers u after r
+      raise-number : is_body k.list ≡ true → (after : List ℕ) (r : Stepped) → Valued code values after a_raise_of Num (i + 1) i r → Answers u after r
       unfolding simple_faults RawDoes fault_if
       raise-number z after r v =
-          given-fine code values i u raises raise-is s es d a_raise_of num_type a_num num-in
+          given-fine code values i u raises raise-is s es d a_raise_of Num a_num refl
           (ap (λ (b : Bool). fault_if b barred i ++ of_type u.around.known.W a_num u.around.known.S raise-given.e)
-          (not-true (in_undo u.around.K.list || in_error u.around.K.list) (sym outside ∙ eq-eqb k.list body_list z))) after
+          (not-true (in_undo u.around.K.list || in_error u.around.K.list) (sym outside ∙ z))) after
           (λ w. w) r v
 
 module _ (k : Setting) (code values : List ℕ) (i s : ℕ) (es : s ≡ op_at (cells_of code) (i + 1)) where
-  pub raised-alone : s ≡ semicolon → (after : List ℕ) (r : Judged) → parts.Alone code after a_raise (eqb k.list handler_list) i r → BegunIn RAISE k code values after i r
-  raised-alone e after r a = record { is = λ c. raise-alone k code values i c s es e after r a }
+  pub raised-alone : s ≡ semicolon → (fine : Bool) → fine ≡ is_handler k.list → (after : List ℕ) (r : Stepped) → parts.Alone code after a_raise fine i r → BegunIn RAISE k code values after i r
+  raised-alone e fine ef after r a = record { is = λ c. raise-alone k code values i c s es e after r (subst (λ (b : Bool). parts.Alone code after a_raise b i r) ef a) }
 
   module _ (d : s ≡ semicolon → ⊥) where
-    pub raised-barred : (k.list ≡ body_list → ⊥) → BegunIn RAISE k code values code i (Faulty barred i)
+    pub raised-barred : is_body k.list ≡ false → BegunIn RAISE k code values code i (Err (record { rule = Barred; word = i }))
     raised-barred z = record { is = λ c. raise-barred k code values i c s es d z }
 
-    pub raised-number : k.list ≡ body_list → (after : List ℕ) (r : Judged) → Valued code values after a_raise_of num_type (i + 1) i r → BegunIn RAISE k code values after i r
+    pub raised-number : is_body k.list ≡ true → (after : List ℕ) (r : Stepped) → Valued code values after a_raise_of Num (i + 1) i r → BegunIn RAISE k code values after i r
     raised-number z after r v = record { is = λ c. raise-number k code values i c s es d z after r v }
 
 -- ---- EXIT, RETRY, TRYNEXT
@@ -297,7 +297,7 @@ module _ (text code values : List ℕ) (k : Setting) (i s : ℕ) (es : s ≡ op_
 
     -- a word that is barred or not
     word-barred : (make : ℕ → Simple) → Alone (sort_in g.stands.around.known.W) (Parses (sort_in g.stands.around.known.W)) make g.stands.s i g.stands.to
-        → (op : ℕ) (fine : Bool) (after : List ℕ) (r : Judged) → parts.Alone code after op fine i r → (out : Bool) → fine ≡ not out
+        → (op : ℕ) (fine : Bool) (after : List ℕ) (r : Stepped) → parts.Alone code after op fine i r → (out : Bool) → fine ≡ not out
         → simple_faults g.stands.around.known.W g.stands.around.K g.stands.around.known.S (make i) ≡ fault_if out barred i
         → (RawWord (cells_of after) op i (g.stands.to + 1) → RawDoes (ground_of g.stands.around) g.stands.around.known.n (cells_of after) g.stands.around.known.S (make i) i (g.stands.to + 1) (g.stands.to + 1))
         → Answers g.stands after r
@@ -309,29 +309,29 @@ module _ (text code values : List ℕ) (k : Setting) (i s : ℕ) (es : s ≡ op_
         word-broken code values i g.stands (make i) x.alone x.after op fine after r a t
         (subst (First (record { number = barred; at = i })) (sym fs) (first-if out barred i (not-false out (sym e ∙ t)))))
 
-    retry-fine : eqb k.list handler_list ≡ not (not (in_error g.stands.around.K.list))
+    retry-fine : is_handler k.list ≡ not (not (in_error g.stands.around.K.list))
     retry-fine = in-handler k.list _ g.tells.list ∙ twice (in_error g.stands.around.K.list)
 
-  pub exited : s ≡ EXIT → (after : List ℕ) (r : Judged) → parts.Alone code after an_exit (not (eqb k.list undo_list)) i r → Stated text code values after k i r
+  pub exited : s ≡ EXIT → (fine : Bool) → fine ≡ not (is_undo k.list) → (after : List ℕ) (r : Stepped) → parts.Alone code after an_exit fine i r → Stated text code values after k i r
   unfolding simple_faults RawDoes
-  exited e after r a = record {
+  exited e fine ef after r a = record {
     is = λ g.
-        word-barred g exits (simple-exit (sort_in g.stands.around.known.W) (Parses (sort_in g.stands.around.known.W)) g.stands.is (sym (statement-sort g) ∙ e)) an_exit _ after r a
-        (in_undo g.stands.around.K.list) (ap not (in-undo k.list _ g.tells.list)) refl (λ w. w);
+        word-barred g exits (simple-exit (sort_in g.stands.around.known.W) (Parses (sort_in g.stands.around.known.W)) g.stands.is (sym (statement-sort g) ∙ e)) an_exit fine after r a
+        (in_undo g.stands.around.K.list) (ef ∙ ap not (in-undo k.list _ g.tells.list)) refl (λ w. w);
   }
 
-  pub retried : s ≡ RETRY → (after : List ℕ) (r : Judged) → parts.Alone code after a_retry (eqb k.list handler_list) i r → Stated text code values after k i r
+  pub retried : s ≡ RETRY → (fine : Bool) → fine ≡ is_handler k.list → (after : List ℕ) (r : Stepped) → parts.Alone code after a_retry fine i r → Stated text code values after k i r
   unfolding simple_faults RawDoes
-  retried e after r a = record {
+  retried e fine ef after r a = record {
     is = λ g.
-        word-barred g retries (simple-retry (sort_in g.stands.around.known.W) (Parses (sort_in g.stands.around.known.W)) g.stands.is (sym (statement-sort g) ∙ e)) a_retry _ after r a
-        (not (in_error g.stands.around.K.list)) (retry-fine g) refl (λ w. w);
+        word-barred g retries (simple-retry (sort_in g.stands.around.known.W) (Parses (sort_in g.stands.around.known.W)) g.stands.is (sym (statement-sort g) ∙ e)) a_retry fine after r a
+        (not (in_error g.stands.around.K.list)) (ef ∙ retry-fine g) refl (λ w. w);
   }
 
-  pub tried-next : s ≡ TRYNEXT → (after : List ℕ) (r : Judged) → parts.Alone code after a_try_next (eqb k.list handler_list) i r → Stated text code values after k i r
+  pub tried-next : s ≡ TRYNEXT → (fine : Bool) → fine ≡ is_handler k.list → (after : List ℕ) (r : Stepped) → parts.Alone code after a_try_next fine i r → Stated text code values after k i r
   unfolding simple_faults RawDoes
-  tried-next e after r a = record {
+  tried-next e fine ef after r a = record {
     is = λ g.
-        word-barred g tries_next (simple-trynext (sort_in g.stands.around.known.W) (Parses (sort_in g.stands.around.known.W)) g.stands.is (sym (statement-sort g) ∙ e)) a_try_next _ after r a
-        (not (in_error g.stands.around.K.list)) (retry-fine g) refl (λ w. w);
+        word-barred g tries_next (simple-trynext (sort_in g.stands.around.known.W) (Parses (sort_in g.stands.around.known.W)) g.stands.is (sym (statement-sort g) ∙ e)) a_try_next fine after r a
+        (not (in_error g.stands.around.K.list)) (ef ∙ retry-fine g) refl (λ w. w);
   }

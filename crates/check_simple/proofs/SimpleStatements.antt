@@ -1,6 +1,5 @@
 -- A simple statement by what it is.
 use mathlib.Core.Path.{◌≡◌, refl, sym, ap, subst, ◌∙◌}
-use mathlib.Core.Bool.{Bool}
 use mathlib.Core.List.{List, []}
 use Prim.Native.Nat.{ℕ, ◌+◌, ◌*◌, ◌<◌, ◌≤◌}
 use native.Mathlib.Omega.{arith}
@@ -13,14 +12,15 @@ use Rattle.store_cells.specs.Cells.{cells_of}
 use Rattle.code.specs.Cells.{op_at, place_at}
 use Rattle.grammar.specs.Form.{Parses}
 use Rattle.grammar.proofs.Places.{simple-first, simple-grows}
-use Rattle.check_expressions.specs.declared.Judged.{Judged}
-use Rattle.check_expressions.specs.declared.Judged.TheVariants.{Typed, Faulty}
+use Rattle.std.specs.Prelude.{Ok, Err}
+use Rattle.layout.specs.Broken.{as_fault}
+use Rattle.layout.specs.declared.rules.Breach.{Breach}
 use Rattle.store_writing.specs.Promises.{Kept}
 use Rattle.faults.specs.First.{First}
 use Rattle.faults.proofs.Expressions.{grows}
 use Rattle.check_links.specs.Raw.{RawDoes, RawSimple}
 use Rattle.check_around.specs.Around.{offset_in, ground_of}
-use Rattle.check_around.specs.Answers.{Fine, Answer}
+use Rattle.check_around.specs.Answers.{Fine, Stepped, Answer}
 use Rattle.check_simple.specs.Answers.{Stands, Answers}
 use Rattle.check_simple.proofs.Expressions.{answer-first, answer-fine, answered-fine, answered-first}
 use Rattle.paper.specs.Words.{word_limit}
@@ -47,21 +47,21 @@ module _ (code values : List ℕ) (at : ℕ) (g : Stands code values at) where
     holds : Type 0
     holds = RawSimple (ground_of g.around) g.around.known.n (cells_of after) g.around.known.S s at (g.to + 1)
 
-    stated : (r : Judged) → Answer (simple_faults g.around.known.W g.around.K g.around.known.S s) code after at (g.to + 1) holds r → Answers g after r
+    stated : (r : Stepped) → Answer (simple_faults g.around.known.W g.around.K g.around.known.S s) code after at (g.to + 1) holds r → Answers g after r
     unfolding holds
     stated r a =
         subst (λ (x : Simple). Answer (simple_faults g.around.known.W g.around.K g.around.known.S x) code after at (g.to + 1)
         (RawSimple (ground_of g.around) g.around.known.n (cells_of after) g.around.known.S x at (g.to + 1)) r) (sym is) a
 
-    pub stated-first : (r : Judged) (number word : ℕ) → r ≡ Faulty number word → length after ≡ length code
-        → First (record { number = number; at = word }) (simple_faults g.around.known.W g.around.K g.around.known.S s) → Answers g after r
-    stated-first r number word e long f = stated r (answer-first _ code after at (g.to + 1) _ r number word e long f)
+    pub stated-first : (r : Stepped) (broken : Breach) → r ≡ Err broken → length after ≡ length code
+        → First (as_fault broken) (simple_faults g.around.known.W g.around.K g.around.known.S s) → Answers g after r
+    stated-first r broken e long f = stated r (answer-first _ code after at (g.to + 1) _ r broken e long f)
 
-    pub stated-fine : (b : ℕ) (next : ℕ) → simple_faults g.around.known.W g.around.K g.around.known.S s ≡ [] → next ≡ g.to + 1 → Kept code after at (g.to + 1) → place_at (cells_of after) at ≡ place_at (cells_of code) at
-        → RawDoes (ground_of g.around) g.around.known.n (cells_of after) g.around.known.S s at (g.to + 1) (g.to + 1) → Answers g after (Typed b next)
+    pub stated-fine : (next : ℕ) → simple_faults g.around.known.W g.around.K g.around.known.S s ≡ [] → next ≡ g.to + 1 → Kept code after at (g.to + 1) → place_at (cells_of after) at ≡ place_at (cells_of code) at
+        → RawDoes (ground_of g.around) g.around.known.n (cells_of after) g.around.known.S s at (g.to + 1) (g.to + 1) → Answers g after (Ok next)
     unfolding holds ground_of offset_in
-    stated-fine b next n e k p d =
-        stated (Typed b next) (answer-fine _ code after at (g.to + 1) _ b next (record {
+    stated-fine next n e k p d =
+        stated (Ok next) (answer-fine _ code after at (g.to + 1) _ next (record {
           none = n;
           next-is = e;
           written = record {
@@ -74,9 +74,9 @@ module _ (code values : List ℕ) (at : ℕ) (g : Stands code values at) where
         }))
 
     -- the same, from what is answered of a part of it
-    pub stated-on : (fs : List Fault) (mid : List ℕ) (x y : ℕ) (P : Type 0) (r : Judged) → Answer fs mid after x y P r → length mid ≡ length code
+    pub stated-on : (fs : List Fault) (mid : List ℕ) (x y : ℕ) (P : Type 0) (r : Stepped) → Answer fs mid after x y P r → length mid ≡ length code
         → ((f : Fault) → First f fs → First f (simple_faults g.around.known.W g.around.K g.around.known.S s))
-        → ((b : ℕ) (next : ℕ) → Fine fs mid after x y next P → Answers g after (Typed b next)) → Answers g after r
-    stated-on fs mid x y P (Typed b next) a l f n = n b next (answered-fine fs mid after x y P (Typed b next) a b next refl)
-    stated-on fs mid x y P (Faulty number word) a l f n =
-        stated-first (Faulty number word) number word refl (a.long ∙ l) (f (record { number = number; at = word }) (answered-first fs mid after x y P (Faulty number word) a number word refl))
+        → ((next : ℕ) → Fine fs mid after x y next P → Answers g after (Ok next)) → Answers g after r
+    stated-on fs mid x y P (Ok next) a l f n = n next (answered-fine fs mid after x y P (Ok next) a next refl)
+    stated-on fs mid x y P (Err broken) a l f n =
+        stated-first (Err broken) broken refl (a.long ∙ l) (f (as_fault broken) (answered-first fs mid after x y P (Err broken) a broken refl))

@@ -1,10 +1,10 @@
 -- Assignments, and statements by their first words.
 use mathlib.Core.Path.{◌≡◌, refl, sym, ap, ap₂, subst, ◌∙◌}
+use mathlib.Core.Logic.{◌⊎◌, inl, inr}
 use mathlib.Core.Bool.{Bool, true, false}
 use mathlib.Core.List.{List, [], ◌++◌}
 use Prim.Native.Nat.{ℕ, suc, ◌+◌, ◌*◌, ◌<◌, ◌≤◌}
 use native.Mathlib.Omega.{arith}
-use lib.Dec.{eqb}
 use lib.ListN.{length}
 use borrow.Author.Tests.{eqb-true, ne_eqb}
 use Rattle.laws.proofs.Tests.{by-same}
@@ -23,8 +23,10 @@ use Rattle.grammar.specs.Form.{Parses, ArgumentsAt}
 use Rattle.grammar.proofs.Places.{target-grows, arguments-grow}
 use Rattle.grammar.proofs.Inversions as inversions
 use Rattle.grammar.proofs.Inversions.{behind-name, behind-brace}
-use Rattle.check_expressions.specs.declared.Judged.{Judged}
-use Rattle.check_expressions.specs.declared.Judged.TheVariants.{Typed, Faulty}
+use Rattle.check_expressions.specs.Judgements.{Judged}
+use Rattle.std.specs.Prelude.{Ok, Err}
+use Rattle.layout.specs.Broken.{as_fault}
+use Rattle.layout.specs.declared.rules.Breach.{Breach}
 use Rattle.store_writing.specs.Promises.{Kept}
 use Rattle.store_writing.proofs.Keeping.{head-above, kept-wider, kept_on}
 use Rattle.check_expressions.proofs.Starts.{loaded-part}
@@ -34,16 +36,16 @@ use Rattle.faults.proofs.Expressions.{grows, of-type-inside}
 use Rattle.faults.proofs.Statements.{arguments-inside, target-inside, call-inside, result-inside}
 use Rattle.check_links.specs.Raw.{RawDoes}
 use Rattle.check_around.specs.declared.Setting.{Setting}
-use Rattle.check_around.specs.Around.{Around, ground_of, Unread, Calls, undo_list}
-use Rattle.check_around.proofs.WhichLists.{in-undo}
-use Rattle.check_around.specs.Answers.{Fine}
+use Rattle.check_around.specs.Around.{Around, ground_of, Unread, Calls}
+use Rattle.check_around.proofs.WhichLists.{is_undo, in-undo}
+use Rattle.check_around.specs.Answers.{Fine, Stepped}
 use Rattle.check_simple.specs.Answers.{Stands, Answers, Statement, Stated}
 use Rattle.check_simple.specs.Parts.{BeginsIn, BegunIn, BeginsOf, BegunOf, Assigns, Assigned, CallsOf, CalledOf, IsCall, Targets, Aimed, AimAnswer, TargetJudged, ValueSide, ValueAssigned, ArgumentsStand, CallAssigns, CallAssigned}
 use Rattle.check_simple.proofs.Arguments.{unread-part, unread-after, apart-kept}
 use Rattle.check_simple.proofs.Targets.{aimed-fine, aimed-first}
 use Rattle.check_simple.proofs.SimpleStatements.{stands_on, stands-sort, stated-first, stated-fine, stated-on}
 use Rattle.check_simple.proofs.ReturnRaiseExit.{statement-sort}
-use Rattle.layout.specs.Types.{IsType}
+use Rattle.layout.specs.declared.types.ValueType.{ValueType}
 
 -- the routines' heads are where they were after a change inside
 pub calls-after : {text values : List ℕ} (a : Around text values) (code after : List ℕ) (at to x y b d : ℕ) → Calls a code at to → Kept code after x y → at ≤ x → y ≤ to + 1 → at ≤ b → d ≤ to → Calls a after b d
@@ -114,28 +116,28 @@ module _ (code values : List ℕ) (undo : Bool) (i : ℕ) (c : Assigns code valu
     unfolding assign-targets
     target-answer = t.is assign-targets
 
-    assign-faulty : (number word : ℕ) → r ≡ Faulty number word → Answers c.begins.stands mid r
-    assign-faulty number word e =
+    assign-faulty : (broken : Breach) → r ≡ Err broken → Answers c.begins.stands mid (Err broken)
+    assign-faulty broken e =
         let g = c.begins.stands in
         let W = g.around.known.W in
         let S = g.around.known.S in
-        let f = aimed-first _ _ _ _ code mid i assigns.n r target-answer number word e in
+        let f = aimed-first _ _ _ _ code mid i assigns.n r target-answer broken e in
         let before = (first-inside f (target-inside W S assigns.target)).high in
         by_side
         (λ a b.
         let s = assigns.call_side a b in
-        stated-first code values i g (assign_call assigns.t (assigns.n + 1) s.es) s.is mid r number word e target-answer.long
-        (call-first W g.around.K S assigns.t (assigns.n + 1) s.es (record { number = number; at = word }) (assigns.n + 1) g.to f (omega (arith, before))
+        stated-first code values i g (assign_call assigns.t (assigns.n + 1) s.es) s.is mid (Err broken) broken refl target-answer.long
+        (call-first W g.around.K S assigns.t (assigns.n + 1) s.es (as_fault broken) (assigns.n + 1) g.to f (omega (arith, before))
         (call-inside W (assigns.n + 1) (assigns.n + 1) g.to (omega arith) (omega (arith, assigns-in)) g.around.K true S s.es
         (λ ts. widen (arguments-inside W S ts s.arguments) (omega arith) (omega (arith, s.after))))
         (result-inside W (assigns.n + 1) (assigns.n + 1) g.to (omega arith) (omega (arith, assigns-in)) _ _)))
         (λ d.
         let s = assigns.value_side d in
-        stated-first code values i g (assign assigns.t s.e) s.is mid r number word e target-answer.long
-        (value-first W g.around.K S assigns.t s.e (record { number = number; at = word }) (assigns.n + 1) g.to f (omega (arith, before))
+        stated-first code values i g (assign assigns.t s.e) s.is mid (Err broken) broken refl target-answer.long
+        (value-first W g.around.K S assigns.t s.e (as_fault broken) (assigns.n + 1) g.to f (omega (arith, before))
         (of-type-inside W (suc nestings) (assigns.n + 1) s.e g.to s.value _ S)))
 
-    module _ (bool : ℕ) (b : ℕ) (e : r ≡ Typed bool b) where
+    module _ (bool : ValueType) (b : ℕ) (e : r ≡ Ok (bool, b)) where
       aimed : Fine (judge_target c.begins.stands.around.known.W c.begins.stands.around.known.S assigns.t).faults code mid i assigns.n b
           (Aimed c.begins.stands.around.known.m c.begins.stands.around.known.n (cells_of code) (cells_of mid) (judge_target c.begins.stands.around.known.W c.begins.stands.around.known.S assigns.t)
           (spot_of c.begins.stands.around.known.W c.begins.stands.around.known.S assigns.t) i assigns.n bool)
@@ -195,9 +197,6 @@ module _ (code values : List ℕ) (undo : Bool) (i : ℕ) (c : Assigns code valu
             target = aimed.written.target;
           }
 
-          pub call-type : IsType bool
-          call-type = record { type = (judge_target c.begins.stands.around.known.W c.begins.stands.around.known.S assigns.t).type; is = aimed.written.type-is }
-
           pub call-assigns : CallAssigns mid values undo i b
           call-assigns = subst (CallAssigns mid values undo i) (sym aimed.next-is) call-assigns-n
 
@@ -207,7 +206,7 @@ module _ (code values : List ℕ) (undo : Bool) (i : ℕ) (c : Assigns code valu
               (signature_of c.begins.stands.around.known.W c.begins.stands.around.K (meaning c.begins.stands.around.known.S (spelled c.begins.stands.around.known.W (assigns.n + 1)))).result (assigns.n + 1)
           call-all = call-faults c.begins.stands.around.known.W c.begins.stands.around.K c.begins.stands.around.known.S assigns.t (assigns.n + 1) call-side.es aimed.none
 
-          call-answers : (after : List ℕ) (p : Judged) → CallAssigned mid values after undo bool i b p → Answers c.begins.stands after p
+          call-answers : (after : List ℕ) (p : Stepped) → CallAssigned mid values after undo bool i b p → Answers c.begins.stands after p
           unfolding RawDoes call-assigns-n
           call-answers after p x =
               let g = c.begins.stands in
@@ -215,9 +214,9 @@ module _ (code values : List ℕ) (undo : Bool) (i : ℕ) (c : Assigns code valu
               let s = assign_call assigns.t (assigns.n + 1) call-side.es in
               stated-on code values i g s call-side.is after _ mid i (call-side.m + 2) _ p (x2.is call-assigns-n (judge_target g.around.known.W g.around.known.S assigns.t) aimed.written.type-is) target-answer.long
               (λ f h. subst (First f) (sym call-all) h)
-              (λ bb next f.
+              (λ next f.
               let two : call-side.m + 2 ≡ g.to + 1 = omega (arith, call-side.after) in
-              stated-fine code values i g s call-side.is after bb next (call-all ∙ f.none) (f.next-is ∙ two)
+              stated-fine code values i g s call-side.is after next (call-all ∙ f.none) (f.next-is ∙ two)
               (kept_on (kept-wider aimed.kept i (g.to + 1) (omega arith) (omega (arith, assigns-in))) (kept-wider f.kept i (g.to + 1) (omega arith) (omega (arith, two))))
               (f.written.place ∙ aimed.written.place)
               (subst (λ (k : ℕ). RawDoes (ground_of g.around) g.around.known.n (cells_of after) g.around.known.S s i k k) two f.written.is))
@@ -250,7 +249,7 @@ module _ (code values : List ℕ) (undo : Bool) (i : ℕ) (c : Assigns code valu
               ≡ of_type c.begins.stands.around.known.W (judge_target c.begins.stands.around.known.W c.begins.stands.around.known.S assigns.t).type c.begins.stands.around.known.S value-side.e
           value-all = value-faults c.begins.stands.around.known.W c.begins.stands.around.K c.begins.stands.around.known.S assigns.t value-side.e (judge_target c.begins.stands.around.known.W c.begins.stands.around.known.S assigns.t).type aimed.none refl
 
-          value-answers : (after : List ℕ) (p : Judged) → ValueAssigned mid values after bool i b p → Answers c.begins.stands after p
+          value-answers : (after : List ℕ) (p : Stepped) → ValueAssigned mid values after bool i b p → Answers c.begins.stands after p
           unfolding RawDoes value-assigns-n
           value-answers after p x =
               let g = c.begins.stands in
@@ -258,15 +257,15 @@ module _ (code values : List ℕ) (undo : Bool) (i : ℕ) (c : Assigns code valu
               let s = assign assigns.t value-side.e in
               stated-on code values i g s value-side.is after _ mid i (g.to + 1) _ p (x2.is value-assigns-n) target-answer.long
               (λ f h. subst (First f) (sym value-all) h)
-              (λ bb next f.
-              stated-fine code values i g s value-side.is after bb next (value-all ∙ f.none) f.next-is
+              (λ next f.
+              stated-fine code values i g s value-side.is after next (value-all ∙ f.none) f.next-is
               (kept_on (kept-wider aimed.kept i (g.to + 1) (omega arith) (omega (arith, assigns-in))) f.kept) (f.written.place ∙ aimed.written.place) f.written.is)
 
 module _ (code values : List ℕ) (undo : Bool) (i : ℕ) (mid : List ℕ) (r : Judged) (t : TargetJudged code values mid i r) where
-  pub assigned-no-target : (number word : ℕ) → r ≡ Faulty number word → Assigned code values mid undo i r
-  assigned-no-target number word e = record { is = λ c. assign-faulty code values undo i c mid r t number word e }
+  pub assigned-no-target : (broken : Breach) → r ≡ Err broken → Assigned code values mid undo i (Err broken)
+  assigned-no-target broken e = record { is = λ c. assign-faulty code values undo i c mid r t broken e }
 
-  module _ (bool : ℕ) (b : ℕ) (e : r ≡ Typed bool b) (q : Bool) (call : IsCall (cells_of mid) (b + 1) q) (after : List ℕ) (p : Judged) where
+  module _ (bool : ValueType) (b : ℕ) (e : r ≡ Ok (bool, b)) (q : Bool) (call : IsCall (cells_of mid) (b + 1) q) (after : List ℕ) (p : Stepped) where
     pub assigned-call : q ≡ true → CallAssigned mid values after undo bool i b p → Assigned code values after undo i p
     assigned-call y x = record { is = λ c. call-answers code values undo i c mid r t bool b e q call y after p x }
 
@@ -274,10 +273,7 @@ module _ (code values : List ℕ) (undo : Bool) (i : ℕ) (mid : List ℕ) (r : 
     assigned-value y x = record { is = λ c. value-answers code values undo i c mid r t bool b e q call y after p x }
 
 -- ---- a name first
-module _ (k : Setting) (code values : List ℕ) (i s : ℕ) (es : s ≡ op_at (cells_of code) (i + 1)) where
-  abbrev undo : Bool
-  undo = eqb k.list undo_list
-
+module _ (k : Setting) (code values : List ℕ) (undo : Bool) (u : undo ≡ is_undo k.list) (i s : ℕ) (es : s ≡ op_at (cells_of code) (i + 1)) where
   module _ (c : BeginsIn NAME k code values i) where
     abbrev g : Stands code values i
     g = c.begins.stands
@@ -286,29 +282,24 @@ module _ (k : Setting) (code values : List ℕ) (i s : ℕ) (es : s ≡ op_at (c
     name-next = es ∙ stands-sort code values i g (i + 1) (omega arith) (omega (arith, stands_on code values i g))
 
     name-undo : undo ≡ in_undo g.around.K.list
-    name-undo = in-undo k.list g.around.K.list c.tells.list
+    name-undo = u ∙ in-undo k.list g.around.K.list c.tells.list
 
-    pub name-becomes : s ≡ becomes → Assigns code values undo i
-    name-becomes e = record { begins = c.begins; undo-is = name-undo; behind = λ d. absurd (d (sym name-next ∙ e)) }
+    pub name-assigns : (s ≡ open_brace) ⊎ (s ≡ becomes) → Assigns code values undo i
+    name-assigns (inl e) = record { begins = c.begins; undo-is = name-undo; behind = λ _. sym name-next ∙ e }
+    name-assigns (inr e) = record { begins = c.begins; undo-is = name-undo; behind = λ d. absurd (d (sym name-next ∙ e)) }
 
-    pub name-brace : s ≡ open_brace → Assigns code values undo i
-    name-brace e = record { begins = c.begins; undo-is = name-undo; behind = λ _. sym name-next ∙ e }
+    pub name-calls : ((s ≡ open_brace) ⊎ (s ≡ becomes) → ⊥) → CallsOf code values undo i
+    name-calls d = record { begins = c.begins; undo-is = name-undo; no-becomes = λ q. d (inr (name-next ∙ q)); no-brace = λ q. d (inl (name-next ∙ q)) }
 
-    pub name-calls : (s ≡ becomes → ⊥) → (s ≡ open_brace → ⊥) → CallsOf code values undo i
-    name-calls a b = record { begins = c.begins; undo-is = name-undo; no-becomes = λ q. a (name-next ∙ q); no-brace = λ q. b (name-next ∙ q) }
+  module _ (after : List ℕ) (r : Stepped) where
+    pub begun-assigned : (s ≡ open_brace) ⊎ (s ≡ becomes) → Assigned code values after undo i r → BegunIn NAME k code values after i r
+    unfolding name-assigns
+    begun-assigned (inl e) a = record { is = λ c. a.is (name-assigns c (inl e)) }
+    begun-assigned (inr e) a = record { is = λ c. a.is (name-assigns c (inr e)) }
 
-  module _ (after : List ℕ) (r : Judged) where
-    pub begun-becomes : s ≡ becomes → Assigned code values after undo i r → BegunIn NAME k code values after i r
-    unfolding name-becomes
-    begun-becomes e a = record { is = λ c. a.is (name-becomes c e) }
-
-    pub begun-brace : s ≡ open_brace → Assigned code values after undo i r → BegunIn NAME k code values after i r
-    unfolding name-brace
-    begun-brace e a = record { is = λ c. a.is (name-brace c e) }
-
-    pub begun-calls : (s ≡ becomes → ⊥) → (s ≡ open_brace → ⊥) → CalledOf code values after undo i r → BegunIn NAME k code values after i r
+    pub begun-calls : ((s ≡ open_brace) ⊎ (s ≡ becomes) → ⊥) → CalledOf code values after undo i r → BegunIn NAME k code values after i r
     unfolding name-calls
-    begun-calls a b x = record { is = λ c. x.is (name-calls c a b) }
+    begun-calls d x = record { is = λ c. x.is (name-calls c d) }
 
 -- ---- all
 module _ (text code values : List ℕ) (k : Setting) (i : ℕ) where
@@ -329,7 +320,7 @@ module _ (text code values : List ℕ) (k : Setting) (i : ℕ) where
     pub begins-read : (s ≡ NAME → ⊥) → (s ≡ RETURN → ⊥) → (s ≡ RAISE → ⊥) → (s ≡ EXIT → ⊥) → (s ≡ RETRY → ⊥) → (s ≡ TRYNEXT → ⊥) → (s ≡ TPWRITE → ⊥) → Statement text code values k i → BeginsOf TPREADNUM text code values i
     begins-read a b c d e f h g = begins-of TPREADNUM (reads-left a b c d e f h g) g
 
-    module _ (after : List ℕ) (r : Judged) where
+    module _ (after : List ℕ) (r : Stepped) where
       pub stated-in : (sort : ℕ) → s ≡ sort → BegunIn sort k code values after i r → Stated text code values after k i r
       unfolding begins-in
       stated-in sort e b = record { is = λ g. b.is (begins-in sort e g) }

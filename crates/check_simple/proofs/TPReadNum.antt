@@ -1,8 +1,7 @@
 -- TPReadNum target, "s";
 use mathlib.Core.Path.{◌≡◌, refl, sym, ap, subst, ◌∙◌}
-use mathlib.Core.Bool.{Bool, true, false}
+use mathlib.Core.Bool.{true}
 use mathlib.Core.List.{List, [], ◌∷◌}
-use mathlib.Core.Option.{none}
 use Prim.Native.Nat.{ℕ, ◌+◌, ◌-◌, ◌*◌, ◌<◌, ◌≤◌}
 use native.Mathlib.Omega.{arith}
 use lib.ListN.{length, take, drop}
@@ -10,7 +9,7 @@ use mir.Syntax.{w32, w64}
 use mir.Val.{Fits}
 use Rattle.paper.specs.Sorts.{STRING, TPREADNUM}
 use Rattle.paper.specs.Trees.{reads}
-use Rattle.paper.specs.Names.{a_num, a_bool, refused_piece, nth, sort_in}
+use Rattle.paper.specs.Names.{a_num, refused_piece, nth, sort_in}
 use Rattle.paper.specs.Types.{Fault, fault, fault_if, differs, wanted}
 use Rattle.paper.specs.Types as types
 use Rattle.paper.specs.Checks.{judge_target, simple_faults}
@@ -21,8 +20,11 @@ use Rattle.code.specs.Steps.{a_target, a_read}
 use Rattle.grammar.specs.Form.{Parses}
 use Rattle.grammar.proofs.Places.{target-grows}
 use Rattle.grammar.proofs.Inversions as inversions
-use Rattle.check_expressions.specs.declared.Judged.{Judged}
-use Rattle.check_expressions.specs.declared.Judged.TheVariants.{Typed, Faulty}
+use Rattle.check_expressions.specs.Judgements.{Judged}
+use Rattle.std.specs.Prelude.{Ok, Err}
+use Rattle.layout.specs.Broken.{as_fault}
+use Rattle.layout.specs.declared.rules.Breach.{Breach}
+use Rattle.layout.specs.declared.rules.Rule.TheVariants.{WrongType}
 use Rattle.store_writing.specs.Promises.{Linked}
 use Rattle.store_writing.proofs.Keeping.{head-below, head-above, place-below, place-above, kept-wider, kept_on}
 use Rattle.check_expressions.proofs.FaultsOfParts.{append-none}
@@ -42,8 +44,10 @@ use Rattle.check_simple.proofs.Assignments.{aims-below, aims-above, raw-target}
 use Rattle.check_simple.proofs.SimpleStatements.{stands_here, stands-small, stated-first, stated-fine}
 use Rattle.check_simple.proofs.TPWrite.{string-at, raw-text}
 use Rattle.layout.specs.Rules.{wrong_type}
-use Rattle.layout.specs.Types.{num_type}
-use Rattle.layout.proofs.Typing.{num-in, same-types, types-differ}
+use Rattle.layout.specs.Types.{type_in}
+use Rattle.layout.specs.declared.types.ValueType.{ValueType}
+use Rattle.layout.specs.declared.types.ValueType.TheVariants.{Num}
+use Rattle.layout.proofs.Typing.{types-differ}
 use Rattle.paper.specs.Words.{word_limit}
 use Rattle.layout.specs.Parts.{characters_part}
 
@@ -97,15 +101,15 @@ module _ (code values : List ℕ) (i : ℕ) (c : Begins TPREADNUM code values i)
     unfolding read-targets
     read_answer = t.is read-targets
 
-    read-faulty : (number word : ℕ) → r ≡ Faulty number word → Answers c.stands mid r
+    read-faulty : (broken : Breach) → r ≡ Err broken → Answers c.stands mid (Err broken)
     unfolding simple_faults
-    read-faulty number word e =
-        let f = aimed-first _ _ _ _ code mid (i + 1) read_is.n r read_answer number word e in
-        stated-first code values i c.stands (reads i read_is.t (read_is.n + 1)) read_is.is mid r number word e read_answer.long
-        (wanted-first (judge_target c.stands.around.known.W c.stands.around.known.S read_is.t) read_is.t.name (record { number = number; at = word })
+    read-faulty broken e =
+        let f = aimed-first _ _ _ _ code mid (i + 1) read_is.n r read_answer broken e in
+        stated-first code values i c.stands (reads i read_is.t (read_is.n + 1)) read_is.is mid (Err broken) broken refl read_answer.long
+        (wanted-first (judge_target c.stands.around.known.W c.stands.around.known.S read_is.t) read_is.t.name (as_fault broken)
         (target-orderly c.stands.around.known.W c.stands.around.known.S read_is.target).refused f)
 
-    module _ (bool : ℕ) (b : ℕ) (e : r ≡ Typed bool b) where
+    module _ (bool : ValueType) (b : ℕ) (e : r ≡ Ok (bool, b)) where
       aimed : Fine (judge_target c.stands.around.known.W c.stands.around.known.S read_is.t).faults code mid (i + 1) read_is.n b
           (Aimed c.stands.around.known.m c.stands.around.known.n (cells_of code) (cells_of mid) (judge_target c.stands.around.known.W c.stands.around.known.S read_is.t)
           (spot_of c.stands.around.known.W c.stands.around.known.S read_is.t) (i + 1) read_is.n bool)
@@ -114,15 +118,15 @@ module _ (code values : List ℕ) (i : ℕ) (c : Begins TPREADNUM code values i)
       pub read-end : (b < word_limit) × (i * 8 + 8 ≤ length mid)
       read-end = (omega (arith, aimed.next-is, read_is.after, c.stands.unread.loaded.last), omega (arith, stands_here code values i c.stands, read_answer.long))
 
-      read-wrong : (bool ≡ num_type → ⊥) → Answers c.stands mid (Faulty wrong_type (i + 1))
+      read-wrong : (bool ≡ Num → ⊥) → Answers c.stands mid (Err (record { rule = WrongType; word = i + 1 }))
       unfolding simple_faults
       read-wrong y =
-          stated-first code values i c.stands (reads i read_is.t (read_is.n + 1)) read_is.is mid (Faulty wrong_type (i + 1)) wrong_type (i + 1) refl read_answer.long
+          stated-first code values i c.stands (reads i read_is.t (read_is.n + 1)) read_is.is mid (Err (record { rule = WrongType; word = i + 1 })) _ refl read_answer.long
           (subst (First (record { number = wrong_type; at = i + 1 }))
-          (sym (wanted-bool (judge_target c.stands.around.known.W c.stands.around.known.S read_is.t) read_is.t.name aimed.none (types-differ num_type bool a_num _ num-in aimed.written.type-is (λ q. y (sym q))) ∙ ap (fault wrong_type) read_is.target.named))
+          (sym (wanted-bool (judge_target c.stands.around.known.W c.stands.around.known.S read_is.t) read_is.t.name aimed.none (ap (differs a_num) (sym aimed.written.type-is) ∙ types-differ Num bool (λ q. y (sym q))) ∙ ap (fault wrong_type) read_is.target.named))
           (first-fault wrong_type (i + 1)))
 
-      module _ (n : bool ≡ num_type) where
+      module _ (n : bool ≡ Num) where
         pub read-string : Strings c.stands.text mid (b + 1)
         read-string =
             let q : read_is.n + 1 ≡ b + 1 = ap (λ (x : ℕ). x + 1) (sym aimed.next-is) in
@@ -142,7 +146,7 @@ module _ (code values : List ℕ) (i : ℕ) (c : Begins TPREADNUM code values i)
           pub read-room : (i * 8 + 8 ≤ length one) × (length one ≡ length code)
           read-room = (omega (arith, read-end.1, read-linked.kept.long), read-linked.kept.long ∙ read_answer.long)
 
-          read_right : (after : List ℕ) → Linked one after i a_read (b + 1) (b + 3) → Answers c.stands after (Typed bool (b + 3))
+          read_right : (after : List ℕ) → Linked one after i a_read (b + 1) (b + 3) → Answers c.stands after (Ok (b + 3))
           unfolding simple_faults RawDoes
           read_right after l =
               let g = c.stands in
@@ -153,8 +157,8 @@ module _ (code values : List ℕ) (i : ℕ) (c : Begins TPREADNUM code values i)
               let three : b + 3 ≡ g.to + 1 = omega (arith, aimed.next-is, read_is.after) in
               let head = head-above l.kept (i + 1) (omega arith) ∙ head-below read-linked.kept (i + 1) (omega (arith, read-on)) in
               let text_Head = head-above l.kept (read_is.n + 1) (omega (arith, read-on)) in
-              stated-fine code values i g (reads i read_is.t (read_is.n + 1)) read_is.is after bool (b + 3)
-              (wanted-num (judge_target known.W known.S read_is.t) read_is.t.name aimed.none (same-types bool num_type _ a_num aimed.written.type-is num-in n)) three
+              stated-fine code values i g (reads i read_is.t (read_is.n + 1)) read_is.is after (b + 3)
+              (wanted-num (judge_target known.W known.S read_is.t) read_is.t.name aimed.none (sym aimed.written.type-is ∙ ap type_in n)) three
               (kept_on (kept_on (kept-wider aimed.kept i (g.to + 1) (omega arith) (omega (arith, read_is.after))) (kept-wider read-linked.kept i (g.to + 1) (omega (arith, read-on)) (omega (arith, read_is.after))))
               (kept-wider l.kept i (g.to + 1) (omega arith) (omega (arith, read_is.after, read-on))))
               (l.place_is ∙ place-below read-linked.kept i (omega (arith, read-on)) ∙ place-below aimed.kept i (omega arith))
@@ -181,7 +185,7 @@ module _ (text code values : List ℕ) (i : ℕ) (c : BeginsOf TPREADNUM text co
   pub reads-small : i + 1 < word_limit
   reads-small = read_small code values i c.begins
 
-  module _ (mid : List ℕ) (r : Judged) (t : TargetJudged code values mid (i + 1) r) (bool : ℕ) (b : ℕ) (e : r ≡ Typed bool b) where
+  module _ (mid : List ℕ) (r : Judged) (t : TargetJudged code values mid (i + 1) r) (bool : ValueType) (b : ℕ) (e : r ≡ Ok (bool, b)) where
     pub reads_end : (b < word_limit) × (i * 8 + 8 ≤ length mid)
     reads_end = read-end code values i c.begins mid r t bool b e
 
@@ -194,7 +198,7 @@ module _ (text code values : List ℕ) (i : ℕ) (c : BeginsOf TPREADNUM text co
     pub reads-after : Fits w64 (b + 3)
     reads-after = record { fits = omega (arith, reads_end.0) }
 
-    module _ (n : bool ≡ num_type) where
+    module _ (n : bool ≡ Num) where
       pub reads-string : Strings text mid (b + 1)
       reads-string = subst (λ (x : List ℕ). Strings x mid (b + 1)) c.text-is (read-string code values i c.begins mid r t bool b e n)
 
@@ -206,12 +210,12 @@ module _ (text code values : List ℕ) (i : ℕ) (c : BeginsOf TPREADNUM text co
         reads-room = read-room code values i c.begins mid r t bool b e n one spelled-there
 
 module _ (text code values : List ℕ) (i : ℕ) (mid : List ℕ) (r : Judged) (t : TargetJudged code values mid (i + 1) r) where
-  pub heard-faulty : (number word : ℕ) → r ≡ Faulty number word → BegunOf TPREADNUM text code values mid i r
-  heard-faulty number word e = record { is = λ c. read-faulty code values i c.begins mid r t number word e }
+  pub heard-faulty : (broken : Breach) → r ≡ Err broken → BegunOf TPREADNUM text code values mid i (Err broken)
+  heard-faulty broken e = record { is = λ c. read-faulty code values i c.begins mid r t broken e }
 
-  module _ (bool : ℕ) (b : ℕ) (e : r ≡ Typed bool b) where
-    pub heard-wrong : (bool ≡ num_type → ⊥) → BegunOf TPREADNUM text code values mid i (Faulty wrong_type (i + 1))
+  module _ (bool : ValueType) (b : ℕ) (e : r ≡ Ok (bool, b)) where
+    pub heard-wrong : (bool ≡ Num → ⊥) → BegunOf TPREADNUM text code values mid i (Err (record { rule = WrongType; word = i + 1 }))
     heard-wrong y = record { is = λ c. read-wrong code values i c.begins mid r t bool b e y }
 
-    pub heard-right : bool ≡ num_type → (one : List ℕ) → Spelled text mid one (b + 1) → (after : List ℕ) → Linked one after i a_read (b + 1) (b + 3) → BegunOf TPREADNUM text code values after i (Typed bool (b + 3))
+    pub heard-right : bool ≡ Num → (one : List ℕ) → Spelled text mid one (b + 1) → (after : List ℕ) → Linked one after i a_read (b + 1) (b + 3) → BegunOf TPREADNUM text code values after i (Ok (b + 3))
     heard-right n one sp after l = record { is = λ c. read_right code values i c.begins mid r t bool b e n one (spelled-there text code values i c mid r t bool b e n one sp) after l }

@@ -1,6 +1,6 @@
 -- TPWrite "s" [\Num:=e]; and the strings of this and of TPReadNum.
 use mathlib.Core.Path.{◌≡◌, refl, sym, ap, subst, ◌∙◌}
-use mathlib.Core.Bool.{Bool, false}
+use mathlib.Core.Bool.{Bool}
 use mathlib.Core.List.{List, [], ◌∷◌}
 use mathlib.Core.Option.{none, some}
 use Prim.Native.Nat.{ℕ, suc, ◌+◌, ◌-◌, ◌*◌, ◌/◌, ◌%◌, ◌<◌, ◌≤◌}
@@ -24,8 +24,8 @@ use Rattle.code.specs.Spans.{guard}
 use Rattle.code.specs.Steps.{Head, characters_in, a_write, a_write_of}
 use Rattle.grammar.specs.Form.{Parses}
 use Rattle.grammar.proofs.Inversions as inversions
-use Rattle.check_expressions.specs.declared.Judged.{Judged}
-use Rattle.check_expressions.specs.declared.Judged.TheVariants.{Typed}
+use Rattle.check_around.specs.Answers.{Stepped}
+use Rattle.std.specs.Prelude.{Ok}
 use Rattle.store_writing.specs.Promises.{Linked}
 use Rattle.store_writing.proofs.Keeping.{head-above, place-below, place-above, kept-wider, kept_on}
 use Rattle.check_expressions.proofs.Starts.{loaded-part, loaded-after}
@@ -36,8 +36,7 @@ use Rattle.check_around.specs.Around.{Quoted, Around, ground_of}
 use Rattle.check_simple.specs.Answers.{Stands, Answers}
 use Rattle.check_simple.specs.Parts.{Begins, BeginsOf, BegunOf, Values, Valued, Strings, Spelled}
 use Rattle.check_simple.proofs.SimpleStatements.{stands-sort, stated-fine, stated-on}
-use Rattle.layout.specs.Types.{no_type, num_type}
-use Rattle.layout.proofs.Typing.{num-in}
+use Rattle.layout.specs.declared.types.ValueType.TheVariants.{Num}
 use Rattle.paper.specs.Names.{a_num}
 use Rattle.layout.specs.Parts.{characters_part}
 
@@ -161,13 +160,13 @@ module _ (code values : List ℕ) (i : ℕ) (c : Begins TPWRITE code values i) w
         pub write-small : i + 5 < word_limit
         write-small = omega (arith, given-on, c.stands.unread.loaded.last)
 
-        written-number : (after : List ℕ) (r : Judged) → Valued mid values after a_write_of num_type (i + 5) i r → Answers c.stands after r
+        written-number : (after : List ℕ) (r : Stepped) → Valued mid values after a_write_of Num (i + 5) i r → Answers c.stands after r
         unfolding simple_faults optional_num RawDoes write-values
         written-number after r v =
             let g = c.stands in
-            stated-on code values i g (writes i (i + 1) (some given.e)) write-of after _ mid i (g.to + 1) _ r (v.is write-values a_num num-in) string-long (λ x f. f)
-            (λ b next f.
-            stated-fine code values i g (writes i (i + 1) (some given.e)) write-of after b next f.none f.next-is
+            stated-on code values i g (writes i (i + 1) (some given.e)) write-of after _ mid i (g.to + 1) _ r (v.is write-values a_num refl) string-long (λ x f. f)
+            (λ next f.
+            stated-fine code values i g (writes i (i + 1) (some given.e)) write-of after next f.none f.next-is
             (kept_on (kept-wider string-linked.kept i (g.to + 1) (omega arith) (omega (arith, write-on))) f.kept)
             (f.written.places i (omega arith) (omega arith) ∙ place-below string-linked.kept i (omega arith))
             (record { valued = f.written.raw; text = string-raw after (f.written.between (i + 1) (omega arith) (omega arith)) (f.written.places (i + 1) (omega arith) (omega arith)); within = omega (arith, write-on) }))
@@ -176,12 +175,12 @@ module _ (code values : List ℕ) (i : ℕ) (c : Begins TPWRITE code values i) w
         plain : (write-is.e ≡ none) × (c.stands.to ≡ i + 2)
         plain = write-none (λ q. d (write-next ∙ q))
 
-        written-plain : (after : List ℕ) → Linked mid after i a_write 0 (i + 3) → Answers c.stands after (Typed no_type (i + 3))
+        written-plain : (after : List ℕ) → Linked mid after i a_write 0 (i + 3) → Answers c.stands after (Ok (i + 3))
         unfolding simple_faults optional_num RawDoes
         written-plain after l =
             let g = c.stands in
             let three : i + 3 ≡ g.to + 1 = omega (arith, plain.1) in
-            stated-fine code values i g (writes i (i + 1) none) (write-is.is ∙ ap (writes i (i + 1)) plain.0) after no_type (i + 3) refl three
+            stated-fine code values i g (writes i (i + 1) none) (write-is.is ∙ ap (writes i (i + 1)) plain.0) after (i + 3) refl three
             (kept_on (kept-wider string-linked.kept i (g.to + 1) (omega arith) (omega (arith, plain.1))) (kept-wider l.kept i (g.to + 1) (omega arith) (omega (arith, plain.1))))
             (l.place_is ∙ place-below string-linked.kept i (omega arith))
             (record {
@@ -212,8 +211,8 @@ module _ (text code values : List ℕ) (i : ℕ) (c : BeginsOf TPWRITE text code
     writes-fits s es b = record { fits = omega (arith, write-small code values i c.begins mid spelled-here s es b) }
 
 module _ (text code values : List ℕ) (i : ℕ) (mid : List ℕ) (sp : Spelled text code mid (i + 1)) (s : ℕ) (es : s ≡ op_at (cells_of mid) (i + 2)) where
-  pub wrote-number : s ≡ backslash → (after : List ℕ) (r : Judged) → Valued mid values after a_write_of num_type (i + 5) i r → BegunOf TPWRITE text code values after i r
+  pub wrote-number : s ≡ backslash → (after : List ℕ) (r : Stepped) → Valued mid values after a_write_of Num (i + 5) i r → BegunOf TPWRITE text code values after i r
   wrote-number b after r v = record { is = λ c. written-number code values i c.begins mid (spelled-here text code values i c mid sp) s es b after r v }
 
-  pub wrote-plain : (s ≡ backslash → ⊥) → (after : List ℕ) → Linked mid after i a_write 0 (i + 3) → BegunOf TPWRITE text code values after i (Typed no_type (i + 3))
+  pub wrote-plain : (s ≡ backslash → ⊥) → (after : List ℕ) → Linked mid after i a_write 0 (i + 3) → BegunOf TPWRITE text code values after i (Ok (i + 3))
   wrote-plain d after l = record { is = λ c. written-plain code values i c.begins mid (spelled-here text code values i c mid sp) s es d after l }

@@ -1,9 +1,9 @@
 -- Targets: a name, or an array's name with an index in braces.
 use mathlib.Core.Path.{◌≡◌, refl, sym, ap, subst, ◌∙◌}
-use mathlib.Core.Bool.{Bool, false}
+use mathlib.Core.Bool.{false}
 use mathlib.Core.List.{List, [], ◌∷◌, ◌++◌}
 use mathlib.Core.Option.{none, some}
-use Prim.Native.Nat.{ℕ, ◌+◌, ◌*◌, ◌/◌, ◌%◌, ◌<◌, ◌≤◌}
+use Prim.Native.Nat.{ℕ, ◌+◌, ◌*◌, ◌<◌, ◌≤◌}
 use native.Mathlib.Omega.{arith}
 use lib.Dec.{eqb}
 use lib.ListN.{length}
@@ -28,8 +28,10 @@ use Rattle.check_names.specs.Promises.{meaning_at}
 use Rattle.grammar.specs.Form.{Parses}
 use Rattle.grammar.proofs.Places.{target-grows}
 use Rattle.grammar.proofs.Inversions.{InBraces, index-some, index-none}
-use Rattle.check_expressions.specs.declared.Judged.{Judged}
-use Rattle.check_expressions.specs.declared.Judged.TheVariants.{Typed, Faulty}
+use Rattle.check_expressions.specs.Judgements.{Judged}
+use Rattle.std.specs.Prelude.{Ok, Err}
+use Rattle.layout.specs.Broken.{as_fault, number_of}
+use Rattle.layout.specs.declared.rules.Breach.{Breach}
 use Rattle.check_expressions.specs.Known.{Loaded, InRoom, Within}
 use Rattle.store_writing.specs.Promises.{Kept, Linked}
 use Rattle.check_expressions.specs.Answers.{OfType}
@@ -49,31 +51,32 @@ use Rattle.check_simple.proofs.Arguments.{quiet-append, quiet_word}
 use Rattle.check_simple.proofs.CalleeNames.{name-means}
 use Rattle.code.specs.Steps.{a_target}
 use Rattle.layout.specs.Kinds.{a_variable, an_array, kind_in, own_in, a_constant, a_loop, a_routine, an_errno, an_error_number, bool_in}
-use Rattle.layout.specs.Types.{num_type}
+use Rattle.layout.specs.declared.types.ValueType.{ValueType}
+use Rattle.layout.specs.declared.types.ValueType.TheVariants.{Num}
 use Rattle.check_names.specs.Promises.{TypeOf}
-use Rattle.layout.proofs.Typing.{num-in}
 use Rattle.paper.specs.Names.{a_num}
 use Rattle.code.specs.Spans.{first_in, size_in}
 use Rattle.layout.specs.Named.{store_bytes}
+use Rattle.layout.specs.declared.rules.Rule.{Rule}
 
 -- ---- answers by their cases
 module _ (m n : ℕ) (j : types.Judged) (spot : Spot) (before after : List ℕ) (at to : ℕ) where
-  pub aim-first : (r : Judged) (number word : ℕ) → r ≡ Faulty number word → length after ≡ length before → First (record { number = number; at = word }) j.faults → AimAnswer m n j spot before after at to r
+  pub aim-first : (r : Judged) (broken : Breach) → r ≡ Err broken → length after ≡ length before → First (as_fault broken) j.faults → AimAnswer m n j spot before after at to r
   unfolding AimTells
-  aim-first r number word e long f = subst (AimAnswer m n j spot before after at to) (sym e) (record { tells = f; long = long })
+  aim-first r broken e long f = subst (AimAnswer m n j spot before after at to) (sym e) (record { tells = f; long = long })
 
-  pub aim-fine : (b : ℕ) (next : ℕ) → Fine j.faults before after at to next (Aimed m n (cells_of before) (cells_of after) j spot at to b) → AimAnswer m n j spot before after at to (Typed b next)
+  pub aim-fine : (b : ValueType) (next : ℕ) → Fine j.faults before after at to next (Aimed m n (cells_of before) (cells_of after) j spot at to b) → AimAnswer m n j spot before after at to (Ok (b, next))
   unfolding AimTells
   aim-fine b next f = record { tells = f; long = f.kept.long }
 
   module _ (r : Judged) (a : AimAnswer m n j spot before after at to r) where
-    pub aimed-fine : (b : ℕ) (next : ℕ) → r ≡ Typed b next → Fine j.faults before after at to next (Aimed m n (cells_of before) (cells_of after) j spot at to b)
+    pub aimed-fine : (b : ValueType) (next : ℕ) → r ≡ Ok (b, next) → Fine j.faults before after at to next (Aimed m n (cells_of before) (cells_of after) j spot at to b)
     unfolding AimTells
     aimed-fine b next e = subst (AimTells m n j spot before after at to) e a.tells
 
-    pub aimed-first : (number word : ℕ) → r ≡ Faulty number word → First (record { number = number; at = word }) j.faults
+    pub aimed-first : (broken : Breach) → r ≡ Err broken → First (as_fault broken) j.faults
     unfolding AimTells
-    aimed-first number word e = subst (AimTells m n j spot before after at to) e a.tells
+    aimed-first broken e = subst (AimTells m n j spot before after at to) e a.tells
 
 -- ---- kinds of names
 no-variable : (routine : ℕ → ℕ) (kind bool own value : ℕ) → (kind ≡ a_variable → ⊥) → variable_in (meaning_with routine kind bool own value) ≡ none
@@ -167,12 +170,12 @@ module _ (code values : List ℕ) (at : ℕ) (g : Targets code values at) where
         plain-is : (g.t.index ≡ none) × (g.to ≡ at + 1)
         plain-is = index-none (sort_in g.known.W) (Parses (sort_in g.known.W)) g.is.index (λ q. no (next-sort ∙ q))
 
-        plain-wrong : (number : ℕ) → (kind_in cell ≡ a_variable → ⊥) → WrongName (kind_in cell) number → First (record { number = number; at = at }) (judge_target g.known.W g.known.S g.t).faults
-        plain-wrong number d w =
+        plain-wrong : (rule : Rule) → (kind_in cell ≡ a_variable → ⊥) → WrongName (kind_in cell) rule → First (record { number = number_of rule; at = at }) (judge_target g.known.W g.known.S g.t).faults
+        plain-wrong rule d w =
             let M = meaning g.known.S (spelled g.known.W at) in
-            target_first g.known.W g.known.S (record { number = number; at = at }) [] g.is
+            target_first g.known.W g.known.S (record { number = number_of rule; at = at }) [] g.is
             (ap (λ (x : types.Judged). x.faults) (judged-scalar g.known.W g.known.S g.t at g.is.named plain-is.0)
-            ∙ scalar-wrong M at number (ap variable_in (sym means) ∙ no-variable g.known.routine (kind_in cell) (bool_in cell) (own_in cell) (value_in cell) d)
+            ∙ scalar-wrong M at (number_of rule) (ap variable_in (sym means) ∙ no-variable g.known.routine (kind_in cell) (bool_in cell) (own_in cell) (value_in cell) d)
             (ap wrong_name (sym means) ∙ w.is g.known.routine (bool_in cell) (own_in cell) (value_in cell)))
 
         module _ (k : kind_in cell ≡ a_variable) where
@@ -189,7 +192,7 @@ module _ (code values : List ℕ) (at : ℕ) (g : Targets code values at) where
               judged-scalar g.known.W g.known.S g.t at g.is.named plain-is.0
               ∙ scalar-right (meaning g.known.S (spelled g.known.W at)) at (type_with (bool_in cell)) (ref_with (own_in cell) (value_in cell)) plain-means
 
-          plain-fine : (type : ℕ) → TypeOf cell type → (after : List ℕ) → Linked code after at (a_target + own_in cell) (value_in cell) (link_at (cells_of code) at)
+          plain-fine : (type : ValueType) → TypeOf cell type → (after : List ℕ) → Linked code after at (a_target + own_in cell) (value_in cell) (link_at (cells_of code) at)
               → Fine (judge_target g.known.W g.known.S g.t).faults code after at g.to (at + 1)
               (Aimed g.known.m g.known.n (cells_of code) (cells_of after) (judge_target g.known.W g.known.S g.t) (spot_of g.known.W g.known.S g.t) at g.to type)
           plain-fine type ty after l =
@@ -198,7 +201,7 @@ module _ (code values : List ℕ) (at : ℕ) (g : Targets code values at) where
                 none = ap (λ (x : types.Judged). x.faults) plain-judged ∙ judged-faults _ _ _;
                 next-is = sym plain-is.1;
                 written = record {
-                  type-is = ty.is ∙ ap some (sym (ap (λ (x : types.Judged). x.type) plain-judged ∙ judged-type _ _ _ refl));
+                  type-is = ty.is ∙ sym (ap (λ (x : types.Judged). x.type) plain-judged ∙ judged-type _ _ _ refl);
                   target = record {
                     k = own_in cell;
                     v = value_in cell;
@@ -223,14 +226,14 @@ module _ (code values : List ℕ) (at cell : ℕ) (ec : cell ≡ meaning_at (cel
   target-element b after r j = record { is = λ g. j.is (element-stands code values at g cell ec s es b) }
 
   module _ (no : s ≡ open_brace → ⊥) (k : ℕ) (ek : k ≡ kind_in cell) where
-    pub target-wrong : (number : ℕ) → (k ≡ a_variable → ⊥) → WrongName k number → TargetJudged code values code at (Faulty number at)
-    target-wrong number d w = record {
-      is = λ g. aim-first _ _ _ _ code code at g.to (Faulty number at) number at refl refl
-          (plain-wrong code values at g cell ec s es no number (λ e. d (ek ∙ e)) (subst (λ (x : ℕ). WrongName x number) ek w));
+    pub target-wrong : (rule : Rule) → (k ≡ a_variable → ⊥) → WrongName k rule → TargetJudged code values code at (Err (record { rule = rule; word = at }))
+    target-wrong rule d w = record {
+      is = λ g. aim-first _ _ _ _ code code at g.to (Err (record { rule = rule; word = at })) _ refl refl
+          (plain-wrong code values at g cell ec s es no rule (λ e. d (ek ∙ e)) (subst (λ (x : ℕ). WrongName x rule) ek w));
     }
 
-    pub target_right : k ≡ a_variable → (own value : ℕ) → own ≡ own_in cell → value ≡ value_in cell → (type : ℕ) → TypeOf cell type
-        → (after : List ℕ) → Linked code after at (a_target + own) value (link_at (cells_of code) at) → TargetJudged code values after at (Typed type (at + 1))
+    pub target_right : k ≡ a_variable → (own value : ℕ) → own ≡ own_in cell → value ≡ value_in cell → (type : ValueType) → TypeOf cell type
+        → (after : List ℕ) → Linked code after at (a_target + own) value (link_at (cells_of code) at) → TargetJudged code values after at (Ok (type, at + 1))
     target_right e own value eo ev type ty after l = record {
       is = λ g. aim-fine _ _ _ _ code after at g.to type (at + 1) (plain-fine code values at g cell ec s es no (sym ek ∙ e) type ty after (rw (eo, ev) at l));
     }
@@ -259,13 +262,13 @@ module _ (code values : List ℕ) (cell at : ℕ) (g : Elements code values cell
   pub element-small : at + 2 < word_limit
   element-small = omega (arith, index_on, index-load.last)
 
-  module _ (mid : List ℕ) (r : Judged) (o : OfType code values mid false num_type (at + 2) r) where
+  module _ (mid : List ℕ) (r : Judged) (o : OfType code values mid false Num (at + 2) r) where
     index-long : length mid ≡ length code
-    index-long = typed_long g.targets.known g.targets.sorts nestings (at + 2) braces.e braces.n index_at index-load index-no (omega arith) mid num_type a_num num-in r o
+    index-long = typed_long g.targets.known g.targets.sorts nestings (at + 2) braces.e braces.n index_at index-load index-no (omega arith) mid Num a_num refl r o
 
-    module _ (b : ℕ) (end : ℕ) (e : r ≡ Typed b end) where
+    module _ (b : ValueType) (end : ℕ) (e : r ≡ Ok (b, end)) where
       index-told : Told g.targets.known (of_type g.targets.known.W (a_num) g.targets.known.S braces.e) code mid braces.e (at + 2) braces.n end
-      index-told = typed-told g.targets.known g.targets.sorts nestings (at + 2) braces.e braces.n index_at index-load index-no (omega arith) mid num_type a_num num-in r o b end e
+      index-told = typed-told g.targets.known g.targets.sorts nestings (at + 2) braces.e braces.n index_at index-load index-no (omega arith) mid Num a_num refl r o b end e
 
       pub index-fits : Fits w64 (end + 1)
       index-fits = record { fits = omega (arith, index-told.next-is, index-load.last) }
@@ -274,15 +277,15 @@ module _ (code values : List ℕ) (cell at : ℕ) (g : Elements code values cell
       index-end =
           (omega (arith, index-told.next-is, index-load.last), omega (arith, index_on, index-load.room, index-long), omega (arith, index_on, index-load.room, index-long))
 
-  array-wrong : (number : ℕ) → (kind_in cell ≡ an_array → ⊥) → WrongName (kind_in cell) number
-      → First (record { number = number; at = at }) (judge_target g.targets.known.W g.targets.known.S g.targets.t).faults
-  array-wrong number d w =
+  array-wrong : (rule : Rule) → (kind_in cell ≡ an_array → ⊥) → WrongName (kind_in cell) rule
+      → First (record { number = number_of rule; at = at }) (judge_target g.targets.known.W g.targets.known.S g.targets.t).faults
+  array-wrong rule d w =
       let W = g.targets.known.W in
       let S = g.targets.known.S in
       let M = meaning S (spelled W at) in
-      target_first W S (record { number = number; at = at }) (judge W false S braces.e).faults g.targets.is
+      target_first W S (record { number = number_of rule; at = at }) (judge W false S braces.e).faults g.targets.is
       (ap (λ (x : types.Judged). x.faults) (judged-element W S g.targets.t at g.targets.is.named braces.e braces.is)
-      ∙ element-wrong M at number braces.e (judge W false S braces.e) (ap array_in (sym g.means) ∙ no-array g.targets.known.routine (kind_in cell) (bool_in cell) (own_in cell) (value_in cell) d)
+      ∙ element-wrong M at (number_of rule) braces.e (judge W false S braces.e) (ap array_in (sym g.means) ∙ no-array g.targets.known.routine (kind_in cell) (bool_in cell) (own_in cell) (value_in cell) d)
       (ap wrong_name (sym g.means) ∙ w.is g.targets.known.routine (bool_in cell) (own_in cell) (value_in cell)))
 
   module _ (k : kind_in cell ≡ an_array) where
@@ -303,13 +306,13 @@ module _ (code values : List ℕ) (cell at : ℕ) (g : Elements code values cell
         ∙ element-is (meaning g.targets.known.S (spelled g.targets.known.W at)) at braces.e (judge g.targets.known.W false g.targets.known.S braces.e)
         (type_with (bool_in cell), ref_with (own_in cell) (first_in (value_in cell)), size_in (value_in cell)) array-means
 
-    module _ (mid : List ℕ) (r : Judged) (o : OfType code values mid false num_type (at + 2) r) where
-      index-first : (number word : ℕ) → r ≡ Faulty number word → First (record { number = number; at = word }) (judge_target g.targets.known.W g.targets.known.S g.targets.t).faults
-      index-first number word e =
-          subst (First (record { number = number; at = word })) (sym (ap (λ (x : types.Judged). x.faults) array-judged ∙ judged-faults _ _ _))
-          (typed-first g.targets.known g.targets.sorts nestings (at + 2) braces.e braces.n index_at index-load index-no (omega arith) mid num_type a_num num-in r o number word e)
+    module _ (mid : List ℕ) (r : Judged) (o : OfType code values mid false Num (at + 2) r) where
+      index-first : (broken : Breach) → r ≡ Err broken → First (as_fault broken) (judge_target g.targets.known.W g.targets.known.S g.targets.t).faults
+      index-first broken e =
+          subst (First (as_fault broken)) (sym (ap (λ (x : types.Judged). x.faults) array-judged ∙ judged-faults _ _ _))
+          (typed-first g.targets.known g.targets.sorts nestings (at + 2) braces.e braces.n index_at index-load index-no (omega arith) mid Num a_num refl r o broken e)
 
-      module _ (b : ℕ) (end : ℕ) (e : r ≡ Typed b end) where
+      module _ (b : ValueType) (end : ℕ) (e : r ≡ Ok (b, end)) where
         abbrev told : Told g.targets.known (of_type g.targets.known.W (a_num) g.targets.known.S braces.e) code mid braces.e (at + 2) braces.n end
         told = index-told mid r o b end e
 
@@ -341,7 +344,7 @@ module _ (code values : List ℕ) (cell at : ℕ) (g : Elements code values cell
               (subst (λ (i : ℕ). Quiet (cells_of after) i (braces.n + 1)) (sym q)
               (quiet-append (cells_of after) (at + 2) braces.n (braces.n + 1) inner (quiet_word (cells_of after) braces.n (low-still (op_at (cells_of after) braces.n) (omega (arith, close-op)))))))
 
-          element-fine : (type : ℕ) → TypeOf cell type → Fine (judge_target g.targets.known.W g.targets.known.S g.targets.t).faults code after at g.targets.to (end + 1)
+          element-fine : (type : ValueType) → TypeOf cell type → Fine (judge_target g.targets.known.W g.targets.known.S g.targets.t).faults code after at g.targets.to (end + 1)
               (Aimed g.targets.known.m g.targets.known.n (cells_of code) (cells_of after) (judge_target g.targets.known.W g.targets.known.S g.targets.t) (spot_of g.targets.known.W g.targets.known.S g.targets.t) at g.targets.to type)
           element-fine type ty =
               let f = told.none in
@@ -350,7 +353,7 @@ module _ (code values : List ℕ) (cell at : ℕ) (g : Elements code values cell
                 none = ap (λ (y : types.Judged). y.faults) array-judged ∙ judged-faults _ _ _ ∙ f;
                 next-is = ap (λ (i : ℕ). i + 1) told.next-is ∙ sym braces.after;
                 written = record {
-                  type-is = ty.is ∙ ap some (sym (ap (λ (y : types.Judged). y.type) array-judged ∙ judged-type _ _ _ f));
+                  type-is = ty.is ∙ sym (ap (λ (y : types.Judged). y.type) array-judged ∙ judged-type _ _ _ f);
                   target = record {
                     k = own_in cell + 2;
                     v = value_in cell;
@@ -378,24 +381,24 @@ module _ (code values : List ℕ) (cell at : ℕ) (g : Elements code values cell
 
 module _ (code values : List ℕ) (cell at : ℕ) where
   module _ (k : ℕ) (ek : k ≡ kind_in cell) where
-    pub element-no-array : (number : ℕ) → (k ≡ an_array → ⊥) → WrongName k number → ElementJudged code values code cell at (Faulty number at)
-    element-no-array number d w = record {
-      is = λ g. aim-first _ _ _ _ code code at g.targets.to (Faulty number at) number at refl refl
-          (array-wrong code values cell at g number (λ e. d (ek ∙ e)) (subst (λ (x : ℕ). WrongName x number) ek w));
+    pub element-no-array : (rule : Rule) → (k ≡ an_array → ⊥) → WrongName k rule → ElementJudged code values code cell at (Err (record { rule = rule; word = at }))
+    element-no-array rule d w = record {
+      is = λ g. aim-first _ _ _ _ code code at g.targets.to (Err (record { rule = rule; word = at })) _ refl refl
+          (array-wrong code values cell at g rule (λ e. d (ek ∙ e)) (subst (λ (x : ℕ). WrongName x rule) ek w));
     }
 
-    module _ (is-array : k ≡ an_array) (mid : List ℕ) (r : Judged) (o : OfType code values mid false num_type (at + 2) r) where
+    module _ (is-array : k ≡ an_array) (mid : List ℕ) (r : Judged) (o : OfType code values mid false Num (at + 2) r) where
       of-kind : kind_in cell ≡ an_array
       of-kind = sym ek ∙ is-array
 
-      pub element-faulty : (number word : ℕ) → r ≡ Faulty number word → ElementJudged code values mid cell at r
-      element-faulty number word e = record {
-        is = λ g. aim-first _ _ _ _ code mid at g.targets.to r number word e (index-long code values cell at g mid r o) (index-first code values cell at g of-kind mid r o number word e);
+      pub element-faulty : (broken : Breach) → r ≡ Err broken → ElementJudged code values mid cell at r
+      element-faulty broken e = record {
+        is = λ g. aim-first _ _ _ _ code mid at g.targets.to r broken e (index-long code values cell at g mid r o) (index-first code values cell at g of-kind mid r o broken e);
       }
 
-      pub element-typed : (b : ℕ) (end : ℕ) → r ≡ Typed b end → (own value : ℕ) → own ≡ own_in cell → value ≡ value_in cell
+      pub element-typed : (b : ValueType) (end : ℕ) → r ≡ Ok (b, end) → (own value : ℕ) → own ≡ own_in cell → value ≡ value_in cell
           → (one : List ℕ) → Linked mid one at (a_target + 2 + own) value (link_at (cells_of mid) at) → (after : List ℕ)
-          → Linked one after (at + 1) (op_at (cells_of one) (at + 1)) (value_at (cells_of one) (at + 1)) end → (type : ℕ) → TypeOf cell type → ElementJudged code values after cell at (Typed type (end + 1))
+          → Linked one after (at + 1) (op_at (cells_of one) (at + 1)) (value_at (cells_of one) (at + 1)) end → (type : ValueType) → TypeOf cell type → ElementJudged code values after cell at (Ok (type, end + 1))
       element-typed b end e own value eo ev one l after x type ty = record {
         is = λ g. aim-fine _ _ _ _ code after at g.targets.to type (end + 1) (element-fine code values cell at g of-kind mid r o b end e one (rw (eo, ev) at l) after x type ty);
       }

@@ -6,11 +6,10 @@ use Rattle.paper.specs.Names.{sort_in}
 use Rattle.paper.specs.Checks.{simple_faults}
 use Rattle.store_cells.specs.Cells.{cells_of}
 use Rattle.grammar.specs.Form.{Parses, SimpleAt}
-use Rattle.check_expressions.specs.declared.Judged.{Judged}
 use Rattle.check_links.specs.Raw.{RawSimple}
 use Rattle.check_around.specs.declared.Setting.{Setting}
 use Rattle.check_around.specs.Around.{Around, ground_of, Unread, Calls, Tells}
-use Rattle.check_around.specs.Answers.{Answer}
+use Rattle.check_around.specs.Answers.{Stepped, Answer}
 
 -- ---- a simple statement
 -- It stands from `at` up to its semicolon at `to`, and the check has not come to it.
@@ -25,7 +24,7 @@ pub record Stands (code values : List ℕ) (at : ℕ) : Type 0 where
   pub calls : Calls around code at to
 
 -- Its faults are those of the paper; the word after its semicolon comes next, and the steps of a run stand in its words.
-abbrev pub Answers : {code values : List ℕ} {at : ℕ} → (g : Stands code values at) → (after : List ℕ) → Judged → Type 0
+abbrev pub Answers : {code values : List ℕ} {at : ℕ} → (g : Stands code values at) → (after : List ℕ) → Stepped → Type 0
 Answers {code} {at = at} g after r =
     Answer (simple_faults g.around.known.W g.around.K g.around.known.S g.s) code after at (g.to + 1)
     (RawSimple (ground_of g.around) g.around.known.n (cells_of after) g.around.known.S g.s at (g.to + 1)) r
@@ -36,5 +35,5 @@ pub record Statement (text code values : List ℕ) (k : Setting) (at : ℕ) : Ty
   pub text-is : stands.text ≡ text
   pub tells : Tells k stands.around.K
 
-pub record Stated (text code values after : List ℕ) (k : Setting) (at : ℕ) (r : Judged) : Type 0 where
+pub record Stated (text code values after : List ℕ) (k : Setting) (at : ℕ) (r : Stepped) : Type 0 where
   pub is : (g : Statement text code values k at) → Answers g.stands after r

@@ -1,5 +1,5 @@
 -- The parts of the check of a simple statement.
-use Rattle.std.specs.Prelude.{◌≡◌, Bool, true, false, not, List, [], ◌∷◌, ◌++◌, map, ℕ, ◌+◌, ◌*◌, ◌-◌, ◌<◌, ◌≤◌, eqb, length, get_or, take, drop, if◌then◌else◌}
+use Rattle.std.specs.Prelude.{◌≡◌, Bool, true, false, not, List, [], ◌∷◌, ◌++◌, map, ℕ, ◌+◌, ◌*◌, ◌-◌, ◌<◌, ◌≤◌, eqb, length, get_or, take, drop, if◌then◌else◌, Ok, Err, Result}
 use Rattle.std.proofs.Math.Option.{none, some}
 use Rattle.paper.specs.Sorts.{NAME, STRING, comma, semicolon, open_paren, close_paren, open_brace, becomes, FUNC}
 use Rattle.paper.specs.Words.{QUOTE, Word, word_limit}
@@ -21,8 +21,7 @@ use Rattle.code.specs.Signatures.{type_at, types_at}
 use Rattle.check_names.specs.Promises.{store_bytes}
 use Rattle.check_names.specs.Meanings.{meaning_with, ref_with}
 use Rattle.grammar.specs.Form.{Parses, ExprAt, SeparatedAt, ArgumentsAt, TargetAt}
-use Rattle.check_expressions.specs.declared.Judged.{Judged}
-use Rattle.check_expressions.specs.declared.Judged.TheVariants.{Typed, Faulty}
+use Rattle.check_expressions.specs.Judgements.{Judged}
 use Rattle.check_expressions.specs.Known.{Fresh, Loaded, InRoom, Known}
 use Rattle.check_expressions.specs.Answers.{Judges}
 use Rattle.check_expressions.specs.Answers as expressions
@@ -31,15 +30,18 @@ use Rattle.faults.specs.First.{First}
 use Rattle.check_links.specs.Resolved.{is_led}
 use Rattle.check_links.specs.Raw.{Quiet, RawArguments, RawCallee, RawAssign, RawAssignCall, RawValued}
 use Rattle.check_around.specs.declared.Setting.{Setting}
-use Rattle.check_simple.specs.declared.Callee.{Callee}
-use Rattle.check_simple.specs.declared.Callee.TheVariants.{At, Wrong}
 use Rattle.check_around.specs.Around.{Quoted, Around, ground_of, Unread, Apart, Calls, Tells}
-use Rattle.check_around.specs.Answers.{Fine, Answer}
+use Rattle.check_around.specs.Answers.{Fine, Stepped, Answer}
 use Rattle.check_simple.specs.Answers.{Stands, Answers}
 use Rattle.layout.specs.Kinds.{kind_in, bool_in, own_in}
 use Rattle.layout.specs.Parts.{characters_part}
 use Rattle.layout.specs.Rules.{wrong_kind, wrong_count, barred}
-use Rattle.layout.specs.Types.{no_type, type_in}
+use Rattle.layout.specs.Types.{type_in}
+use Rattle.layout.specs.declared.types.ValueType.{ValueType}
+use Rattle.layout.specs.Broken.{as_fault, number_of}
+use Rattle.layout.specs.declared.rules.Breach.{Breach}
+use Rattle.layout.specs.declared.rules.Rule.{Rule}
+use Rattle.layout.specs.declared.rules.Rule.TheVariants.{Barred}
 
 -- ---- a statement by its first word
 pub record Begins (sort : ℕ) (code values : List ℕ) (at : ℕ) : Type 0 where
@@ -51,7 +53,7 @@ pub record BeginsIn (sort : ℕ) (k : Setting) (code values : List ℕ) (at : �
   pub begins : Begins sort code values at
   pub tells : Tells k begins.stands.around.K
 
-pub record BegunIn (sort : ℕ) (k : Setting) (code values after : List ℕ) (at : ℕ) (r : Judged) : Type 0 where
+pub record BegunIn (sort : ℕ) (k : Setting) (code values after : List ℕ) (at : ℕ) (r : Stepped) : Type 0 where
   pub is : (g : BeginsIn sort k code values at) → Answers g.begins.stands after r
 
 -- where the text matters
@@ -59,7 +61,7 @@ pub record BeginsOf (sort : ℕ) (text code values : List ℕ) (at : ℕ) : Type
   pub begins : Begins sort code values at
   pub text-is : begins.stands.text ≡ text
 
-pub record BegunOf (sort : ℕ) (text code values after : List ℕ) (at : ℕ) (r : Judged) : Type 0 where
+pub record BegunOf (sort : ℕ) (text code values after : List ℕ) (at : ℕ) (r : Stepped) : Type 0 where
   pub is : (g : BeginsOf sort text code values at) → Answers g.begins.stands after r
 
 -- a name with := or { behind it, or with neither, in an UNDO list or not
@@ -68,7 +70,7 @@ pub record Assigns (code values : List ℕ) (undo : Bool) (at : ℕ) : Type 0 wh
   pub undo-is : undo ≡ checks.in_undo begins.stands.around.K.list
   pub behind : (sort_in begins.stands.around.known.W (at + 1) ≡ becomes → ⊥) → sort_in begins.stands.around.known.W (at + 1) ≡ open_brace
 
-pub record Assigned (code values after : List ℕ) (undo : Bool) (at : ℕ) (r : Judged) : Type 0 where
+pub record Assigned (code values after : List ℕ) (undo : Bool) (at : ℕ) (r : Stepped) : Type 0 where
   pub is : (g : Assigns code values undo at) → Answers g.begins.stands after r
 
 pub record CallsOf (code values : List ℕ) (undo : Bool) (at : ℕ) : Type 0 where
@@ -77,20 +79,20 @@ pub record CallsOf (code values : List ℕ) (undo : Bool) (at : ℕ) : Type 0 wh
   pub no-becomes : sort_in begins.stands.around.known.W (at + 1) ≡ becomes → ⊥
   pub no-brace : sort_in begins.stands.around.known.W (at + 1) ≡ open_brace → ⊥
 
-pub record CalledOf (code values after : List ℕ) (undo : Bool) (at : ℕ) (r : Judged) : Type 0 where
+pub record CalledOf (code values after : List ℕ) (undo : Bool) (at : ℕ) (r : Stepped) : Type 0 where
   pub is : (g : CallsOf code values undo at) → Answers g.begins.stands after r
 
 -- ---- names and types
 -- r is the rule that a name of this kind breaks where another is asked for
-pub record WrongName (kind r : ℕ) : Type 0 where
-  pub is : (routine : ℕ → ℕ) (bool own value : ℕ) → wrong_name (meaning_with routine kind bool own value) ≡ r
+pub record WrongName (kind : ℕ) (r : Rule) : Type 0 where
+  pub is : (routine : ℕ → ℕ) (bool own value : ℕ) → wrong_name (meaning_with routine kind bool own value) ≡ number_of r
 
 -- the type that a head says
 unfoldable pub said_type : (head : ℕ) → DataType
 said_type w = if eqb (value_in w) 0 then type_of (op_in w) else refused_piece
 
-pub record TypeDiffers (head type : ℕ) (r : Bool) : Type 0 where
-  pub is : (t : DataType) → type_in type ≡ some t → differs (said_type head) t ≡ r
+pub record TypeDiffers (head : ℕ) (type : ValueType) (r : Bool) : Type 0 where
+  pub is : (t : DataType) → type_in type ≡ t → differs (said_type head) t ≡ r
 
 -- a name with a parenthesis behind it
 pub record IsCall (C : List ℕ) (at : ℕ) (r : Bool) : Type 0 where
@@ -140,14 +142,14 @@ pub record Targets (code values : List ℕ) (at : ℕ) : Type 0 where
   pub loaded : Loaded known.W code at to
 
 -- what is said of it: its type, and where its value goes; its first word has the place that it has in C₀
-pub record Aimed (m n : ℕ) (C₀ C : List ℕ) (j : types.Judged) (spot : Spot) (at to type : ℕ) : Type 0 where
-  pub type-is : type_in type ≡ some j.type
+pub record Aimed (m n : ℕ) (C₀ C : List ℕ) (j : types.Judged) (spot : Spot) (at to : ℕ) (type : ValueType) : Type 0 where
+  pub type-is : type_in type ≡ j.type
   pub target : Targeted m n C spot at to
   pub place : place_at C at ≡ place_at C₀ at
 
 unfoldable pub AimTells : (m n : ℕ) (j : types.Judged) (spot : Spot) (before after : List ℕ) (at to : ℕ) → Judged → Type 0
-AimTells m n j spot before after at to (Typed type next) = Fine j.faults before after at to next (Aimed m n (cells_of before) (cells_of after) j spot at to type)
-AimTells m n j spot before after at to (Faulty number word) = First (record { number = number; at = word }) j.faults
+AimTells m n j spot before after at to (Ok (type, next)) = Fine j.faults before after at to next (Aimed m n (cells_of before) (cells_of after) j spot at to type)
+AimTells m n j spot before after at to (Err broken) = First (as_fault broken) j.faults
 
 pub record AimAnswer (m n : ℕ) (j : types.Judged) (spot : Spot) (before after : List ℕ) (at to : ℕ) (r : Judged) : Type 0 where
   pub tells : AimTells m n j spot before after at to r
@@ -169,9 +171,9 @@ pub record ElementJudged (code values after : List ℕ) (cell at : ℕ) (r : Jud
       (spot_of g.targets.known.W g.targets.known.S g.targets.t) code after at g.targets.to r
 
 -- ---- assignments, whose target at i ends before b
-pub record ValueSide (code values : List ℕ) (wants i b : ℕ) : Type 0 where
+pub record ValueSide (code values : List ℕ) (wants : ValueType) (i b : ℕ) : Type 0 where
   pub type : DataType
-  pub wants_is : type_in wants ≡ some type
+  pub wants_is : type_in wants ≡ type
   pub text : List ℕ
   pub around : Around text values
   pub t : Target
@@ -189,7 +191,7 @@ pub record AssignWritten (raw : Type 0) (before after : List ℕ) (i : ℕ) : Ty
   pub is : raw
   pub place : place_at (cells_of after) i ≡ place_at (cells_of before) i
 
-pub record ValueAssigned (code values after : List ℕ) (wants i b : ℕ) (r : Judged) : Type 0 where
+pub record ValueAssigned (code values after : List ℕ) (wants : ValueType) (i b : ℕ) (r : Stepped) : Type 0 where
   pub is : (g : ValueSide code values wants i b)
       → Answer (of_type g.around.known.W g.type g.around.known.S g.e) code after i (g.to + 1)
       (AssignWritten (RawAssign (ground_of g.around) g.around.known.n (cells_of after) g.around.known.S g.t g.e i (g.to + 1) (g.to + 1)) code after i) r
@@ -213,15 +215,20 @@ pub record CalleeFound (R : ℕ → ℕ) (count : ℕ) (code : List ℕ) (m : Me
   pub kind : eqb (op_at (cells_of code) h) FUNC ≡ function
 
 -- It is no such routine: a rule is broken, whatever the arguments are.
-pub record CalleeWrong (W : List Word) (K : checks.Setting) (m : Meaning) (function : Bool) (i number : ℕ) : Type 0 where
-  pub is : (es : List Expr) → checks.callee_faults W K function m i es ≡ fault number i
-  pub low : number ≤ wrong_kind
+pub record CalleeWrong (W : List Word) (K : checks.Setting) (m : Meaning) (function : Bool) (i : ℕ) (broken : Breach) : Type 0 where
+  pub is : (es : List Expr) → checks.callee_faults W K function m i es ≡ fault (number_of broken.rule) broken.word
+  pub at : broken.word ≡ i
+  pub low : number_of broken.rule ≤ wrong_kind
   -- nothing is known of what it gives
   pub no_result : function ≡ true → (signature_of W K m).result ≡ none
 
+-- the word that the routine begins with; or no such routine, and the rule that this breaks, at the name
+abbrev pub Callee : Type 0
+Callee = Result ℕ Breach
+
 unfoldable pub CalleeSays : {text values : List ℕ} (a : Around text values) (code : List ℕ) (function : Bool) (i : ℕ) → Callee → Type 0
-CalleeSays a code function i (At h) = CalleeFound (numbered a.R) (length a.R) code (meaning a.known.S (spelled a.known.W i)) function h
-CalleeSays a code function i (Wrong number) = CalleeWrong a.known.W a.K (meaning a.known.S (spelled a.known.W i)) function i number
+CalleeSays a code function i (Ok h) = CalleeFound (numbered a.R) (length a.R) code (meaning a.known.S (spelled a.known.W i)) function h
+CalleeSays a code function i (Err broken) = CalleeWrong a.known.W a.K (meaning a.known.S (spelled a.known.W i)) function i broken
 
 pub record CalleeTold (code values : List ℕ) (function : Bool) (i : ℕ) (r : Callee) : Type 0 where
   pub is : (g : Callees code values i) → CalleeSays g.around code function i r
@@ -277,7 +284,7 @@ pub record MoreRead {code values : List ℕ} {p b : ℕ} (g : More code values p
   pub read : Reads g.around.known.m g.around.known.n C g.a g.b₀ (g.us ++ map (term_of g.around.known.W g.around.known.S) g.rest) g.z
   pub quiet : Quiet C g.a g.z
 
-pub record MoreJudged (code values after : List ℕ) (p b : ℕ) (r : Judged) : Type 0 where
+pub record MoreJudged (code values after : List ℕ) (p b : ℕ) (r : Stepped) : Type 0 where
   pub is : (g : More code values p b)
       → Answer (argument_faults g.around.known.W g.around.known.S g.ts g.rest) code after b g.z (MoreRead g (cells_of after)) r
 
@@ -289,12 +296,6 @@ pub record ArgumentsStand (W : List Word) (es : List Expr) (first closing z end 
   pub ends : sort_in W end ≡ semicolon
   pub at-end : closing ≡ semicolon → end ≡ z
   pub past_end : (closing ≡ semicolon → ⊥) → (closing ≡ close_paren) × (end ≡ z + 1)
-
--- a comma counts
-pub record Commas (s r : ℕ) : Type 0 where
-  pub yes : s ≡ comma → r ≡ 1
-  pub no : (s ≡ comma → ⊥) → r ≡ 0
-  pub few : r ≤ 1
 
 pub record Counts (code : List ℕ) (first closing : ℕ) : Type 0 where
   pub W : List Word
@@ -341,7 +342,7 @@ side_faults a undo h callee es =
     ++ fault_if (not (eqb (length (signature_for a h).parameters) (length es))) wrong_count callee
     ++ argument_faults a.known.W a.known.S (signature_for a h).parameters es
 
-pub record CallJudged (code values after : List ℕ) (undo : Bool) (op h callee first closing : ℕ) (r : Judged) : Type 0 where
+pub record CallJudged (code values after : List ℕ) (undo : Bool) (op h callee first closing : ℕ) (r : Stepped) : Type 0 where
   pub is : (g : CallSide code values undo h callee first closing) → Answer (side_faults g.around undo h callee g.es) code after callee g.z (CallWritten g (cells_of after) op) r
 
 -- a function's call, for a target of a type
@@ -367,8 +368,8 @@ for_faults {callee = callee} g j =
     call_faults g.around.known.W g.around.K true g.around.known.S callee g.es
     ++ result_faults g.around.known.W j (signature_of g.around.known.W g.around.K (meaning g.around.known.S (spelled g.around.known.W callee))).result callee
 
-pub record ForJudged (code values after : List ℕ) (undo : Bool) (wants callee : ℕ) (r : Judged) : Type 0 where
-  pub is : (g : ForCalls code values undo callee) (j : types.Judged) → type_in wants ≡ some j.type → Answer (for_faults g j) code after callee g.z (ForWritten g (cells_of after)) r
+pub record ForJudged (code values after : List ℕ) (undo : Bool) (wants : ValueType) (callee : ℕ) (r : Stepped) : Type 0 where
+  pub is : (g : ForCalls code values undo callee) (j : types.Judged) → type_in wants ≡ j.type → Answer (for_faults g j) code after callee g.z (ForWritten g (cells_of after)) r
 
 -- the target at i ends before b
 pub record CallAssigns (code values : List ℕ) (undo : Bool) (i b : ℕ) : Type 0 where
@@ -377,16 +378,16 @@ pub record CallAssigns (code values : List ℕ) (undo : Bool) (i b : ℕ) : Type
   pub before : i < b
   pub target : Targeted for.around.known.m for.around.known.n (cells_of code) (spot_of for.around.known.W for.around.known.S t) i b
 
-pub record CallAssigned (code values after : List ℕ) (undo : Bool) (wants i b : ℕ) (r : Judged) : Type 0 where
-  pub is : (g : CallAssigns code values undo i b) (j : types.Judged) → type_in wants ≡ some j.type
+pub record CallAssigned (code values after : List ℕ) (undo : Bool) (wants : ValueType) (i b : ℕ) (r : Stepped) : Type 0 where
+  pub is : (g : CallAssigns code values undo i b) (j : types.Judged) → type_in wants ≡ j.type
       → Answer (for_faults g.for j) code after i (g.for.z + 2)
       (AssignWritten (RawAssignCall (ground_of g.for.around) g.for.around.known.n (cells_of after) g.for.around.known.S g.t (b + 1) g.for.es i (g.for.z + 2) (g.for.z + 2)) code after i) r
 
 -- ---- words and values
 -- a statement of one word
-pub record Alone (before after : List ℕ) (op : ℕ) (fine : Bool) (i : ℕ) (r : Judged) : Type 0 where
-  pub yes : fine ≡ true → Linked before after i op 0 (i + 2) × (r ≡ Typed no_type (i + 2))
-  pub no : fine ≡ false → (after ≡ before) × (r ≡ Faulty barred i)
+pub record Alone (before after : List ℕ) (op : ℕ) (fine : Bool) (i : ℕ) (r : Stepped) : Type 0 where
+  pub yes : fine ≡ true → Linked before after i op 0 (i + 2) × (r ≡ Ok (i + 2))
+  pub no : fine ≡ false → (after ≡ before) × (r ≡ Err (record { rule = Barred; word = i }))
 
 -- a statement at i with an expression of a type, from a word on up to its semicolon
 pub record Values (code values : List ℕ) (from i : ℕ) : Type 0 where
@@ -405,22 +406,15 @@ pub record ValueWritten {code values : List ℕ} {from i : ℕ} (g : Values code
   pub between : (k : ℕ) → i < k → k < from → head_at C k ≡ head_at (cells_of code) k
   pub places : (k : ℕ) → i ≤ k → k < from → place_at C k ≡ place_at (cells_of code) k
 
-pub record Valued (code values after : List ℕ) (op wants from i : ℕ) (r : Judged) : Type 0 where
-  pub is : (g : Values code values from i) (t : DataType) → type_in wants ≡ some t
+pub record Valued (code values after : List ℕ) (op : ℕ) (wants : ValueType) (from i : ℕ) (r : Stepped) : Type 0 where
+  pub is : (g : Values code values from i) (t : DataType) → type_in wants ≡ t
       → Answer (of_type g.around.known.W t g.around.known.S g.e) code after i (g.to + 1) (ValueWritten g (cells_of after) op) r
 
 -- ---- strings
--- how many bytes a character takes that begins with this one
-pub record Width (b r : ℕ) : Type 0 where
-  pub quote : b ≡ QUOTE → r ≡ 2
-  pub other : (b ≡ QUOTE → ⊥) → r ≡ 1
-  pub some : 0 < r
-  pub few : r ≤ 2
-
--- how many characters n bytes from `first` on are
-pub record Characters (text : List ℕ) (first n r : ℕ) : Type 0 where
-  pub is : r ≡ length (unquoted (take n (drop first text)))
-  pub most : r ≤ n
+-- how many characters these bytes are
+pub record Characters (bytes : List ℕ) (r : ℕ) : Type 0 where
+  pub is : r ≡ length (unquoted bytes)
+  pub most : r ≤ length bytes
 
 -- the string at word i
 pub record Strings (text code : List ℕ) (i : ℕ) : Type 0 where

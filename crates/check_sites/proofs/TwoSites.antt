@@ -30,7 +30,7 @@ use Rattle.check_constants.specs.Answers.{cell_of, InNum}
 use Rattle.check_sites.specs.Sites.{Site, the_module, a_routine, filling, own_of, Among, InPlace, Placed, is_own, owned, Filled}
 use Rattle.check_sites.specs.Parts.{base_of, Fills}
 use borrow.Author.Tests.{lt-ltb, le-ltb}
-use Rattle.paper.specs.Trees.{Declared, Module}
+use Rattle.paper.specs.Trees.{Module}
 
 -- ---- names
 pub may-declare : (scope : List Text) (text : Text) → cannot_declare scope text ≡ false → is_protected text ≡ false

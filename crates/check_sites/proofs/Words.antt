@@ -4,27 +4,24 @@ use mathlib.Core.List.{List}
 use Prim.Native.Nat.{ℕ, ◌+◌, ◌-◌, ◌*◌, ◌<◌, ◌≤◌}
 use native.Mathlib.Omega.{arith}
 use lib.ListN.{length, get_or}
-use borrow.Author.Tests.{ne_eqb}
 use Rattle.laws.proofs.Tests.{by-same}
-use Rattle.paper.specs.Sorts.{NUM}
-use Rattle.paper.specs.Names.{type_of}
 use Rattle.store_cells.specs.Cells.{cells_of, Put}
 use Rattle.store_cells.proofs.Kept.{put-length, put_same, put_other}
 use Rattle.code.specs.Cells.{op_at}
 use Rattle.check_names.specs.declared.Scope.{Scope}
 use Rattle.check_names.specs.Meanings.{cell_with}
+use Rattle.check_names.specs.Promises.{TypeNamed}
 use Rattle.check_names.specs.Promises as names
+use Rattle.layout.specs.declared.types.ValueType.TheVariants.{Num, Bool}
 use Rattle.check_names.specs.Scopes.{Declares}
 use Rattle.check_sites.specs.Parts.{TypeBit, Fills, MakesIn}
 
 -- ---- sorts
-pub type-num : (s : ℕ) → s ≡ NUM → TypeBit s 0
-unfolding type_of
-type-num s h = record { small = omega arith; is = rw h refl }
+pub type-num : (s : ℕ) → TypeNamed s Num → TypeBit s 0
+type-num s t = record { small = omega arith; is = t.is }
 
-pub type-bool : (s : ℕ) → (s ≡ NUM → ⊥) → TypeBit s 1
-unfolding type_of
-type-bool s h = record { small = omega arith; is = rw (ne_eqb s NUM h) refl }
+pub type-bool : (s : ℕ) → TypeNamed s Bool → TypeBit s 1
+type-bool s t = record { small = omega arith; is = t.is }
 
 -- ---- cells
 pub fills-none : (values : List ℕ) (from v : ℕ) → Fills values values from 0 v

@@ -1,5 +1,5 @@
 -- A name declared in a scope, and its words.
-use Rattle.std.specs.Prelude.{◌≡◌, Bool, List, map, ℕ, ◌+◌, ◌-◌, ◌*◌, ◌<◌, ◌≤◌, eqb, length, get_or, if◌then◌else◌}
+use Rattle.std.specs.Prelude.{◌≡◌, Bool, List, map, ℕ, ◌+◌, ◌-◌, ◌<◌, ◌≤◌, eqb, length, get_or, if◌then◌else◌}
 use Rattle.paper.specs.Words.{Word}
 use Rattle.paper.specs.Names.{type_of, Names, text_of, Scopes, spelled, cannot_declare}
 use Rattle.store_cells.specs.Cells.{cells_of}

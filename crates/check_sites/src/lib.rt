@@ -1,4 +1,5 @@
 // The two scopes that data are declared in: whether a name can be declared in one, and a name and its words as they become known there.
+// Both stores are lent one by one: check_statements says why.
 #![tactic(auto)]
 
 ghost use Rattle.std.specs.Prelude.{◌+◌, ◌*◌, ◌<◌, ◌≤◌, length};
@@ -9,17 +10,26 @@ ghost use Rattle.check_sites.specs.Parts.{TypeBit, Fills, Taken, MakesIn};
 
 use check_names::Scope;
 use layout::kinds;
+use layout::types::ValueType;
 use store_writing::sort;
+
+// Where data are declared: the bit that their meanings have in the table, and how many words they may have. The bit is a number, as it stands in a lent cell.
+#[derive(Clone, Copy)]
+pub struct Site {
+    pub own: u32,
+    pub limit: u32,
+}
 
 // ---- words
 
+// The type that a sort names, as a bit of a meaning in a lent cell: 0 is num.
 pub fn type_bit(s: u32) -> u32
     ensures { TypeBit s result }
 {
-    if s == text_sorts::NUM {
-        return 0;
+    match check_names::type_named(s) {
+        ValueType::Num => 0,
+        ValueType::Bool => 1,
     }
-    1
 }
 
 // ---- cells
@@ -29,10 +39,8 @@ pub fn fill(values: &mut [u8], from: usize, count: u32, v: u32)
     requires { ((from + count) * 4 ≤ length values.old) × (from + count < link_part) }
     ensures { Fills values.old values.new from count v }
 {
-    let mut k = 0;
-    while k < count {
+    for k in 0..count {
         store_cells::put(values, from + k as usize, v);
-        k += 1;
     }
 }
 
@@ -47,14 +55,10 @@ pub fn is_taken<'a>(code: &'a [u8], values: &'a [u8], own: u32, i: usize) -> boo
     if check_names::is_protected(m) {
         return true;
     }
-    let kind = check_names::kind_of(m);
-    if kind < kinds::VARIABLE {
-        return false;
+    match check_names::kind_of(m) {
+        kinds::VARIABLE | kinds::ARRAY | kinds::CONSTANT => check_names::own_of(m) == own,
+        _ => false,
     }
-    if kinds::CONSTANT < kind {
-        return false;
-    }
-    check_names::own_of(m) == own
 }
 
 // The name at a word becomes known in a scope, and has so many of its words: its type stands before it.

@@ -1,7 +1,7 @@
 -- Fours of bytes from the front on, compared as words.
 use mathlib.Core.Path.{◌≡◌, refl, sym, ap, ap₂, ◌∙◌}
 use mathlib.Core.List.{List, [], ◌∷◌, ◌++◌, map, map-append}
-use Prim.Native.Nat.{ℕ, ◌+◌, ◌*◌, ◌<◌, ◌≤◌}
+use Prim.Native.Nat.{ℕ, ◌+◌, ◌*◌, ◌/◌, ◌<◌, ◌≤◌}
 use native.Mathlib.Omega.{arith}
 use native.Mathlib.Numerals.{add-one}
 use lib.ListN.{length, take, drop, length-take, take-append-drop, get_or-eq_default}
@@ -30,7 +30,7 @@ front_bytes n l b h =
 pub fours-start : (a b : List ℕ) → Fours a b 0
 fours-start a b = record { inside = omega arith; same = refl }
 
-pub fours-on : (a b : List ℕ) (k x y : ℕ) → length a ≡ length b → Fours a b k → k * 4 + 4 ≤ length a → Got a k x → Got b k y → x ≡ y → Fours a b (k + 1)
+pub fours-on : (a b : List ℕ) (k x y : ℕ) → length a ≡ length b → Fours a b k → k < length a / 4 → Got a k x → Got b k y → x ≡ y → Fours a b (k + 1)
 fours-on a b k x y e f h p q z =
     let ha : k < length (cells_of a) = omega (arith, length-words a) in
     let hb : k < length (cells_of b) = omega (arith, length-words b) in

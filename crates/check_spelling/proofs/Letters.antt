@@ -2,34 +2,32 @@
 use mathlib.Core.Path.{◌≡◌, sym, ap, ap₂, ◌∙◌}
 use mathlib.Core.Bool.{Bool, true, false, not}
 use mathlib.Core.List.{List, ◌∷◌, map}
-use Prim.Native.Nat.{ℕ, ◌+◌, ◌-◌, ◌<◌, ◌≤◌}
+use Prim.Native.Nat.{ℕ, ◌+◌, ◌<◌, ◌≤◌}
 use native.Mathlib.Omega.{arith}
 use lib.Dec.{eqb}
 use lib.ListN.{length, get_or, drop, length-map, drop_of_length-le}
 use borrow.Author.Tests.{not-true, not-false, eq-eqb, lt-ltb, le-ltb, le-leb, lt-leb}
+use Rattle.std.specs.Char.{to_ascii_uppercase}
+use Rattle.std.proofs.lemmas.Str.Ascii.{uppercase_is}
+use Rattle.laws.proofs.Tests.{by_less, by_most}
 use Rattle.laws.proofs.Lists.{rest}
 use Rattle.paper.specs.Sorts.{folded, equal_texts}
 use Rattle.check_names.proofs.Spellings.{texts-differ}
 
 -- ---- letters
-module _ (b : ℕ) where
-  pub fold-before : b < 97 → b ≡ folded b
-  unfolding folded
-  fold-before h = rw (lt-ltb b 97 h, folded)
-
-  pub fold_small : 97 ≤ b → b ≤ 122 → b - 32 ≡ folded b
-  unfolding folded
-  fold_small h g = rw (le-ltb b 97 h, folded) (rw (le-leb b 122 g))
-
-  pub fold-behind : 97 ≤ b → 122 < b → b ≡ folded b
-  unfolding folded
-  fold-behind h g = rw (le-ltb b 97 h, folded) (rw (lt-leb b 122 g))
+-- the library's capital of a letter is the paper's
+pub folds : (b x : ℕ) → x ≡ to_ascii_uppercase b → x ≡ folded b
+unfolding folded
+folds b x e =
+    let up = uppercase_is b in
+    by_less b 97 (λ h. rw (lt-ltb b 97 h, folded) (e ∙ up.1 h))
+    (λ h. by_most b 122 (λ g. rw (le-ltb b 97 h, folded) (rw (le-leb b 122 g) (omega (arith, e, up.0 (h, g))))) (λ g. rw (le-ltb b 97 h, folded) (rw (lt-leb b 122 g) (e ∙ up.2 g))))
 
 pub alike-equal : (a b : ℕ) → a ≡ b → true ≡ eqb (folded a) (folded b)
 alike-equal a b e = sym (eq-eqb (folded a) (folded b) (ap folded e))
 
-pub alike-folded : (a b x y : ℕ) → x ≡ folded a → y ≡ folded b → eqb x y ≡ eqb (folded a) (folded b)
-alike-folded a b x y e g = ap₂ eqb e g
+pub alike-folded : (a b x y : ℕ) → x ≡ to_ascii_uppercase a → y ≡ to_ascii_uppercase b → eqb x y ≡ eqb (folded a) (folded b)
+alike-folded a b x y e g = ap₂ eqb (folds a x e) (folds b y g)
 
 -- ---- texts
 abbrev pub same_names : List ℕ → List ℕ → Bool

@@ -2,7 +2,7 @@
 use mathlib.Core.Path.{◌≡◌, refl, sym, ◌∙◌}
 use mathlib.Core.Bool.{Bool, true, false}
 use mathlib.Core.List.{List, [], ◌∷◌, map}
-use Prim.Native.Nat.{ℕ, ◌+◌, ◌*◌, ◌<◌}
+use Prim.Native.Nat.{ℕ, ◌<◌}
 use native.Mathlib.Omega.{arith}
 use lib.ListN.{length, get_or, drop}
 use borrow.Author.Tests.{ne_eqb}
@@ -11,7 +11,8 @@ use Rattle.paper.specs.Sorts.{bytes, folded, equal_texts}
 use Rattle.paper.specs.Names.{look_in, protected}
 use Rattle.layout.specs.Kinds.{an_errno, an_error_number, cell_with}
 use Rattle.check_names.specs.Meanings.{cell_of, protected_cell}
-use Rattle.check_spelling.proofs.Letters.{same_names}
+use Rattle.std.specs.Char.{to_ascii_uppercase}
+use Rattle.check_spelling.proofs.Letters.{folds, same_names}
 
 abbrev errno : List ℕ
 errno = 69 ∷ 82 ∷ 82 ∷ 78 ∷ 79 ∷ []
@@ -62,9 +63,9 @@ unfolding equal_texts folded
 differs s x l d = sym (rw (ne_eqb 69 (folded x) d, equal_texts))
 
 -- all of them begin with E
-pub not-e : (l : List ℕ) (b : ℕ) → 0 < length l → b ≡ folded (get_or l 0 0) → (b ≡ 69 → ⊥) → 0 ≡ protected_cell (map folded l)
+pub not-e : (l : List ℕ) (b : ℕ) → 0 < length l → b ≡ to_ascii_uppercase (get_or l 0 0) → (b ≡ 69 → ⊥) → 0 ≡ protected_cell (map folded l)
 not-e [] b h e d = absurd (omega arith)
 not-e (x ∷ l) b h e d =
-    let no : (s : List ℕ) → false ≡ same_names (69 ∷ s) (x ∷ l) = λ s. differs s x l (λ z. d (e ∙ sym z)) in
+    let no : (s : List ℕ) → false ≡ same_names (69 ∷ s) (x ∷ l) = λ s. differs s x l (λ z. d (folds x b e ∙ sym z)) in
     other-cell (x ∷ l) false (no (drop 1 errno)) refl false (no (drop 1 overflows)) refl false (no (drop 1 divides)) refl false (no (drop 1 bounds)) refl
     false (no (drop 1 raises)) refl

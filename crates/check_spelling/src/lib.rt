@@ -9,9 +9,6 @@ ghost use Rattle.check_spelling.specs.Hash.{buckets, four_of, few_of, many_of, h
 
 use layout::kinds;
 
-// A small letter is so much more than its capital.
-const SMALL: u8 = 32;
-
 // Letters in both cases are the same below this.
 const LETTERS: usize = 32;
 
@@ -32,27 +29,11 @@ const MIX: usize = 73;
 
 const SPREAD: usize = 648055;
 
-// A small letter becomes a capital.
-fn fold(b: u8) -> u8
-    ensures { result ≡ folded b }
-{
-    if b < b'a' {
-        return b;
-    }
-    if b <= b'z' {
-        return b - SMALL;
-    }
-    b
-}
-
 // Equal bytes are told at once.
 fn alike(a: u8, b: u8) -> bool
     ensures { result ≡ eqb (folded a) (folded b) }
 {
-    if a == b {
-        return true;
-    }
-    fold(a) == fold(b)
+    a == b || a.to_ascii_uppercase() == b.to_ascii_uppercase()
 }
 
 // How many fours of bytes, from the front on, are equal: each four is compared at once.
@@ -60,14 +41,13 @@ fn fours<'a>(a: &'a [u8], b: &'a [u8]) -> usize
     requires { length a.now ≡ length b.now }
     ensures { Fours a.now b.now result }
 {
-    let mut k = 0;
-    while k * 4 + 4 <= a.len() {
+    let all = a.len() / 4;
+    for k in 0..all {
         if store_cells::get(a, k) != store_cells::get(b, k) {
             return k;
         }
-        k += 1;
     }
-    k
+    all
 }
 
 // Two names of one spelling. From the first four that differs on, letters are compared one by one.
@@ -77,12 +57,10 @@ pub fn same<'a>(a: &'a [u8], b: &'a [u8]) -> bool
     if a.len() != b.len() {
         return false;
     }
-    let mut i = fours(a, b) * 4;
-    while i < a.len() {
+    for i in fours(a, b) * 4..a.len() {
         if !alike(a[i], b[i]) {
             return false;
         }
-        i += 1;
     }
     true
 }
@@ -116,10 +94,8 @@ fn many(name: &[u8]) -> usize
     ensures { (result ≡ many_of name.now) × (result < 1048576) }
 {
     let mut h = four(name, name.len() - 4);
-    let mut k = 0;
-    while k * 4 + 4 < name.len() {
+    for k in 0..(name.len() - 1) / 4 {
         h = (h * MIX + four(name, k * 4)) % RANGE;
-        k += 1;
     }
     h
 }
@@ -135,12 +111,12 @@ pub fn hash(name: &[u8]) -> usize
     many(name) * SPREAD % RANGE / LOW_BITS
 }
 
-// The cell of a protected name's meaning; 0 for any other.
+// The cell of a protected name's meaning; 0 for any other, as the table of meanings has it.
 pub fn protected(name: &[u8]) -> u32
     requires { 0 < length name.now }
     ensures { result ≡ protected_cell (map folded name.now) }
 {
-    if fold(name[0]) != b'E' {
+    if name[0].to_ascii_uppercase() != b'E' {
         return check_names::UNKNOWN;
     }
     if same(b"ERRNO", name) {

@@ -2,7 +2,7 @@
 use Rattle.check_names.specs.Promises.{store_bytes}
 use Rattle.layout.specs.Parts.{link_part}
 use mathlib.Core.Path.{◌≡◌, refl, sym, ap, subst, ◌∙◌}
-use mathlib.Core.Bool.{Bool, true, false}
+use mathlib.Core.Bool.{false}
 use mathlib.Core.List.{List, [], ◌++◌}
 use mathlib.Core.Option.{Option, none, some}
 use Prim.Native.Nat.{ℕ, ◌+◌, ◌-◌, ◌*◌, ◌/◌, ◌%◌, ◌<◌, ◌≤◌}
@@ -24,14 +24,12 @@ use Rattle.code.specs.Steps.{an_if, an_else_if}
 use Rattle.grammar.specs.Form.{Parses, ElseAt}
 use Rattle.grammar.proofs.Inversions.{FirstArm, arms-first}
 use Rattle.grammar.proofs.Places.{list-grows, arms-grow, else-grows}
-use Rattle.check_expressions.specs.declared.Judged.{Judged}
-use Rattle.check_expressions.specs.declared.Judged.TheVariants as judged
 use Rattle.store_writing.specs.Promises.{Kept, Linked}
 use Rattle.store_writing.proofs.Keeping.{place-below, linked-place}
 use Rattle.check_expressions.specs.Answers.{OfType}
 use Rattle.check_expressions.specs.Answers as expressions
 use Rattle.faults.specs.First.{First, Inside}
-use Rattle.faults.proofs.First.{◌and◌, widen, every-none, first-before}
+use Rattle.faults.proofs.First.{widen, every-none, first-before}
 use Rattle.faults.proofs.Expressions.{grows, of-type-inside}
 use Rattle.faults.proofs.Statements.{list_inside, arms-inside, else-inside}
 use Rattle.check_links.specs.Raw.{SameWords, RawWord, RawTerm, RawList, LastOf, an-else, no-else, RawArms, Begins, NoMore, RawElse, RawStatement}
@@ -40,8 +38,6 @@ use Rattle.check_links.proofs.Orders.{last-order, list-order}
 use Rattle.check_around.specs.declared.Setting.{Setting}
 use Rattle.check_around.specs.Around.{Around, ground_of, offset_in}
 use Rattle.check_names.specs.declared.Scope.{Scope}
-use Rattle.check_names.specs.declared.Walked.{Walked}
-use Rattle.check_names.specs.declared.Walked.TheVariants.{Upto, Faulty}
 use Rattle.check_statements.specs.Answers.{SameValues, Lists, Done, Answer, Listed}
 use Rattle.check_compounds.specs.Here.{Outside, Here}
 use Rattle.check_statements.specs.Parts.{ThenAt, Thens, Thened, Elses, ElseWritten, Elsed}
@@ -50,9 +46,14 @@ use Rattle.check_statements.proofs.Same.{same-values, lists-as, elses-as, expres
 use Rattle.check_compounds.proofs.Frames.{outside-same, outside_wider, outside-on, kept-outside, same-before, same-behind, same-on, head-before, head-behind, tail-before, here-from}
 use Rattle.check_compounds.proofs.Frames.{here_on, here-part, calls-behind, term-same, list_same, op_same, value_same, link-same, word_same, linked-outside, linked-word}
 use Rattle.check_compounds.proofs.ExpressionsJudged.{inside_both, expression-stands, judged-faulty, judged-long, judged-none, judged-next, judged-term, judged-kept}
-use Rattle.check_statements.proofs.ListWalk.{upto_done, faulty-first, done-answer, first-answer, faulty-answer}
-use Rattle.layout.specs.Types.{bool_type}
-use Rattle.layout.proofs.Typing.{bool-in}
+use Rattle.check_statements.proofs.ListWalk.{upto_done, faulty-first, done-answer, first-answer}
+use Rattle.layout.specs.declared.types.ValueType.{ValueType}
+use Rattle.layout.specs.declared.types.ValueType.TheVariants.{Bool}
+use Rattle.check_names.specs.Scopes.{Walked}
+use Rattle.check_expressions.specs.Judgements.{Judged}
+use Rattle.std.specs.Prelude.{Ok, Err}
+use Rattle.layout.specs.Broken.{as_fault}
+use Rattle.layout.specs.declared.rules.Breach.{Breach}
 
 -- ---- the words of what is left
 module _ (W : List Word) (d : ℕ) (b : Statements) (rest : Arms) (t last : ℕ) (x : ThenAt (sort_in W) d b rest t last) where
@@ -207,16 +208,16 @@ module _ (text code values : List ℕ) (k : Setting) (used i first : ℕ) (now v
       unfolding lists ground_of
       inner = answer-as x.same _ _ _ _ _ _ _ _ r (l.is (lists-as x.same lists))
 
-      list-wrong : (number word : ℕ) → r ≡ Faulty number word → ForIf one values'' r
+      list-wrong : (broken : Breach) → r ≡ Err broken → ForIf one values'' (Err broken)
       unfolding else-faults
-      list-wrong number word q =
+      list-wrong broken q =
           let i1 = list_inside a.known.W a.K a.M x.is.list a.known.S n in
           let i2 = rest_in (n + fors_in_list x.b) in
-          let f = first-before (faulty-first r inner number word q) i1 i2 (omega arith) in
+          let f = first-before (faulty-first r inner broken q) i1 i2 (omega arith) in
           let f2 = first-before f (inside_both i1 i2 (omega (arith, order)) (omega (arith, order))) else-in (omega arith) in
-          faulty-answer _ _ _ _ _ _ _ _ _ r number word q (subst (First (record { number = number; at = word })) (sym x.faults-are) f2) (inner.long ∙ x.long)
+          first-answer _ _ _ _ _ _ _ _ broken _ (subst (First (as_fault broken)) (sym x.faults-are) f2) (inner.long ∙ x.long)
 
-      module _ (e : ℕ) (u : Scope) (q : r ≡ Upto e u) where
+      module _ (e : ℕ) (u : Scope) (q : r ≡ Ok (e, u)) where
         done : Done (list_faults a.known.W a.K a.M x.b a.known.S n) now one values values'' (t + 1) x.is.m (n + fors_in_list x.b) e u.used
             (RawList (ground_of a) a.known.n (cells_of one) x.b a.known.S n (t + 1) x.is.m)
         done = upto_done r inner e u q
@@ -361,15 +362,15 @@ module _ (text code values : List ℕ) (k : Setting) (used i first : ℕ) (now v
                     answer-as done.same _ _ _ _ _ _ _ _ r2
                     ((subst (λ (v : ℕ). Elsed text two values'' three values''' k v m r2) done.used-is (subst (λ (v : ℕ). Elsed text two values'' three values''' k u.used v r2) done.next-is el)).is (elses-as done.same elses))
 
-                else-wrong : (number word : ℕ) → r2 ≡ Faulty number word → ForIf three values''' r2
+                else-wrong : (broken : Breach) → r2 ≡ Err broken → ForIf three values''' (Err broken)
                 unfolding total else-faults
-                else-wrong number word q2 =
-                    faulty-answer _ _ _ _ _ _ _ _ _ r2 number word q2
-                    (subst (First (record { number = number; at = word })) (sym remain)
-                    (subst (λ (v : ℕ). First (record { number = number; at = word }) (list_faults a.known.W a.K a.M g.o a.known.S v)) counted (faulty-first r2 last-answer number word q2)))
+                else-wrong broken q2 =
+                    first-answer _ _ _ _ _ _ _ _ broken _
+                    (subst (First (as_fault broken)) (sym remain)
+                    (subst (λ (v : ℕ). First (as_fault broken) (list_faults a.known.W a.K a.M g.o a.known.S v)) counted (faulty-first r2 last-answer broken q2)))
                     (last-answer.long ∙ arm-long)
 
-                module _ (z : ℕ) (v : Scope) (q2 : r2 ≡ Upto z v) where
+                module _ (z : ℕ) (v : Scope) (q2 : r2 ≡ Ok (z, v)) where
                   ends : Done (list_faults a.known.W a.K a.M g.o a.known.S (n + fors_in_list x.b)) two three values values''' m g.to (n + fors_in_list x.b + fors_in_list g.o) z v.used
                       (ElseWritten (sort_in a.known.W)
                       (λ (first : ℕ). RawElse (ground_of a) a.known.n (cells_of three) (λ (x2 y2 : ℕ). RawList (ground_of a) a.known.n (cells_of three) g.o a.known.S (n + fors_in_list x.b) x2 y2) m first g.to) m)
@@ -436,7 +437,7 @@ module _ (text code values : List ℕ) (k : Setting) (used i first : ℕ) (now v
                         last-same {z3} (an-else w3 e3) s3 o3 r3 = an-else (word_same s3 m (omega arith) (omega arith) _ z3 w3) e3
                         last-same (no-else d3 e3) s3 o3 r3 = no-else d3 e3
 
-                    finished : ForIf four values''' (Upto z v)
+                    finished : ForIf four values''' (Ok (z, v))
                     unfolding RawStatement total else-faults ground_of fors_in_arms
                     finished =
                         done-answer _ _ _ _ _ _ _ _ _ _ _
@@ -502,14 +503,14 @@ module _ (text code values : List ℕ) (k : Setting) (used i first : ℕ) (now v
               unfolding arm_faults
               in-arm = ap (λ (r2 : Arms). arm_faults a.known.W a.K a.M r2 a.known.S (n + fors_in_list x.b)) f.is
 
-              module _ (three : List ℕ) (j : Judged) (o2 : OfType two values'' three false bool_type (e + 1) j) where
-                o3 : OfType two values three false bool_type (m + 1) j
-                o3 = of-type-as done.same (subst (λ (v : ℕ). OfType two values'' three false bool_type (v + 1) j) done.next-is o2)
+              module _ (three : List ℕ) (j : Judged) (o2 : OfType two values'' three false Bool (e + 1) j) where
+                o3 : OfType two values three false Bool (m + 1) j
+                o3 = of-type-as done.same (subst (λ (v : ℕ). OfType two values'' three false Bool (v + 1) j) done.next-is o2)
 
-                condition-wrong : (number word : ℕ) → j ≡ judged.Faulty number word → ForIf three values'' (Faulty number word)
+                condition-wrong : (broken : Breach) → j ≡ Err broken → ForIf three values'' (Err broken)
                 unfolding total else-faults
-                condition-wrong number word q2 =
-                    let c2 = judged-faulty text two values a k (n + fors_in_list x.b) m g.to next_here f.e (m + 1) f.n f.condition no-operator (omega arith) (omega (arith, next-order, ending)) three bool_type a_bool bool-in j o3 number word q2 in
+                condition-wrong broken q2 =
+                    let c2 = judged-faulty text two values a k (n + fors_in_list x.b) m g.to next_here f.e (m + 1) f.n f.condition no-operator (omega arith) (omega (arith, next-order, ending)) three Bool a_bool refl j o3 broken q2 in
                     let i1 = of-type-inside a.known.W _ _ _ _ f.condition a_bool a.known.S in
                     let i2 = list_inside a.known.W a.K a.M f.list a.known.S (n + fors_in_list x.b) in
                     let i3 = next-in (n + fors_in_list x.b + fors_in_list f.b) in
@@ -518,22 +519,22 @@ module _ (text code values : List ℕ) (k : Setting) (used i first : ℕ) (now v
                     let f2 = first-before f1 i4 i3 (omega arith) in
                     let i5 = inside_both i4 i3 (omega (arith, spans, next-order)) (omega (arith, next-order)) in
                     let f3 = first-before f2 i5 else-in (omega arith) in
-                    first-answer _ _ _ _ _ _ _ _ number word _
-                    (subst (First (record { number = number; at = word })) (sym (left ∙ ap (λ (l2 : List Fault). l2 ++ else-faults) in-arm)) f3)
-                    (judged-long text two values a k (n + fors_in_list x.b) m g.to next_here f.e (m + 1) f.n f.condition no-operator (omega arith) (omega (arith, next-order, ending)) three bool_type a_bool bool-in j o3 ∙ arm-long)
+                    first-answer _ _ _ _ _ _ _ _ broken _
+                    (subst (First (as_fault broken)) (sym (left ∙ ap (λ (l2 : List Fault). l2 ++ else-faults) in-arm)) f3)
+                    (judged-long text two values a k (n + fors_in_list x.b) m g.to next_here f.e (m + 1) f.n f.condition no-operator (omega arith) (omega (arith, next-order, ending)) three Bool a_bool refl j o3 ∙ arm-long)
 
-                module _ (bool : ℕ) (m2 : ℕ) (q2 : j ≡ judged.Typed bool m2) where
+                module _ (type : ValueType) (m2 : ℕ) (q2 : j ≡ Ok (type, m2)) where
                   then_at : m2 ≡ f.n
-                  then_at = judged-next text two values a k (n + fors_in_list x.b) m g.to next_here f.e (m + 1) f.n f.condition no-operator (omega arith) (omega (arith, next-order, ending)) three bool_type a_bool bool-in j o3 bool m2 q2
+                  then_at = judged-next text two values a k (n + fors_in_list x.b) m g.to next_here f.e (m + 1) f.n f.condition no-operator (omega arith) (omega (arith, next-order, ending)) three Bool a_bool refl j o3 type m2 q2
 
                   fine : of_type a.known.W a_bool a.known.S f.e ≡ []
-                  fine = judged-none text two values a k (n + fors_in_list x.b) m g.to next_here f.e (m + 1) f.n f.condition no-operator (omega arith) (omega (arith, next-order, ending)) three bool_type a_bool bool-in j o3 bool m2 q2
+                  fine = judged-none text two values a k (n + fors_in_list x.b) m g.to next_here f.e (m + 1) f.n f.condition no-operator (omega arith) (omega (arith, next-order, ending)) three Bool a_bool refl j o3 type m2 q2
 
                   new_term : RawTerm (ground_of a) a.known.n (cells_of three) a.known.S f.e (m + 1) f.n
-                  new_term = judged-term text two values a k (n + fors_in_list x.b) m g.to next_here f.e (m + 1) f.n f.condition no-operator (omega arith) (omega (arith, next-order, ending)) three bool_type a_bool bool-in j o3 bool m2 q2
+                  new_term = judged-term text two values a k (n + fors_in_list x.b) m g.to next_here f.e (m + 1) f.n f.condition no-operator (omega arith) (omega (arith, next-order, ending)) three Bool a_bool refl j o3 type m2 q2
 
                   kept : Kept two three (m + 1) f.n
-                  kept = judged-kept text two values a k (n + fors_in_list x.b) m g.to next_here f.e (m + 1) f.n f.condition no-operator (omega arith) (omega (arith, next-order, ending)) three bool_type a_bool bool-in j o3 bool m2 q2
+                  kept = judged-kept text two values a k (n + fors_in_list x.b) m g.to next_here f.e (m + 1) f.n f.condition no-operator (omega arith) (omega (arith, next-order, ending)) three Bool a_bool refl j o3 type m2 q2
 
                   three-is : Outside (cells_of two) (cells_of three) (m + 1) f.n
                   three-is = kept-outside kept
@@ -596,20 +597,20 @@ module _ (text code values : List ℕ) (k : Setting) (used i first : ℕ) (now v
 
   -- ---- for whatever the statement is
   module _ (one values'' : List ℕ) (r : Walked) (l : Listed text now values' one values'' k n (t + 1) r) where
-    pub arm-list-wrong : (number word : ℕ) → r ≡ Faulty number word → Thened text code values one values'' k used i first r
-    arm-list-wrong number word q = record { is = λ g. list-wrong g one values'' r l number word q }
+    pub arm-list-wrong : (broken : Breach) → r ≡ Err broken → Thened text code values one values'' k used i first (Err broken)
+    arm-list-wrong broken q = record { is = λ g. list-wrong g one values'' r l broken q }
 
-    module _ (e : ℕ) (u : Scope) (q : r ≡ Upto e u) (two : List ℕ) (ended : ArmEnded one two op c t e) (s : ℕ) (es : s ≡ op_at (cells_of two) e) where
+    module _ (e : ℕ) (u : Scope) (q : r ≡ Ok (e, u)) (two : List ℕ) (ended : ArmEnded one two op c t e) (s : ℕ) (es : s ≡ op_at (cells_of two) e) where
       module _ (f : s ≡ ELSEIF → ⊥) (three values''' : List ℕ) (r2 : Walked) (el : Elsed text two values'' three values''' k u.used e r2) where
-        pub arm-else-wrong : (number word : ℕ) → r2 ≡ Faulty number word → Thened text code values three values''' k used i first r2
-        arm-else-wrong number word q2 = record { is = λ g. else-wrong g one values'' r l e u q two ended s es f three values''' r2 el number word q2 }
+        pub arm-else-wrong : (broken : Breach) → r2 ≡ Err broken → Thened text code values three values''' k used i first (Err broken)
+        arm-else-wrong broken q2 = record { is = λ g. else-wrong g one values'' r l e u q two ended s es f three values''' r2 el broken q2 }
 
-        pub arms-finished : (z : ℕ) (v : Scope) → r2 ≡ Upto z v → (four : List ℕ) → Linked three four i (op_at (cells_of three) i) (value_at (cells_of three) i) z → Thened text code values four values''' k used i first (Upto z v)
+        pub arms-finished : (z : ℕ) (v : Scope) → r2 ≡ Ok (z, v) → (four : List ℕ) → Linked three four i (op_at (cells_of three) i) (value_at (cells_of three) i) z → Thened text code values four values''' k used i first (Ok (z, v))
         arms-finished z v q2 four l2 = record { is = λ g. finished g one values'' r l e u q two ended s es f three values''' r2 el z v q2 four l2 }
 
-      module _ (h : s ≡ ELSEIF) (three : List ℕ) (j : Judged) (o2 : OfType two values'' three false bool_type (e + 1) j) where
-        pub arm-wrong : (number word : ℕ) → j ≡ judged.Faulty number word → Thened text code values three values'' k used i first (Faulty number word)
-        arm-wrong number word q2 = record { is = λ g. condition-wrong g one values'' r l e u q two ended s es h three j o2 number word q2 }
+      module _ (h : s ≡ ELSEIF) (three : List ℕ) (j : Judged) (o2 : OfType two values'' three false Bool (e + 1) j) where
+        pub arm-wrong : (broken : Breach) → j ≡ Err broken → Thened text code values three values'' k used i first (Err broken)
+        arm-wrong broken q2 = record { is = λ g. condition-wrong g one values'' r l e u q two ended s es h three j o2 broken q2 }
 
-        pub arms-go : (bool : ℕ) (m2 : ℕ) → j ≡ judged.Typed bool m2 → Armings text code values k used i first three values'' an_else_if e m2 u.used
-        arms-go bool m2 q2 = record { is = λ g. goes-on g one values'' r l e u q two ended s es h three j o2 bool m2 q2 }
+        pub arms-go : (type : ValueType) (m2 : ℕ) → j ≡ Ok (type, m2) → Armings text code values k used i first three values'' an_else_if e m2 u.used
+        arms-go type m2 q2 = record { is = λ g. goes-on g one values'' r l e u q two ended s es h three j o2 type m2 q2 }

@@ -2,7 +2,7 @@
 -- written over.
 use mathlib.Core.Path.{◌≡◌, sym, subst}
 use mathlib.Core.List.{List}
-use Prim.Native.Nat.{ℕ, ◌+◌, ◌-◌, ◌<◌, ◌≤◌}
+use Prim.Native.Nat.{ℕ, ◌+◌, ◌<◌, ◌≤◌}
 use native.Mathlib.Omega.{arith}
 use lib.ListN.{length}
 use Rattle.store_cells.specs.Cells.{cells_of}
@@ -19,10 +19,11 @@ use Rattle.check_around.specs.Around.{Around, ground_of}
 use Rattle.check_compounds.specs.Here.{Outside, Here}
 use Rattle.check_compounds.proofs.Frames.{outside_wider, outside-on, same-before, same-behind, same-on, here-part, list_same}
 use Rattle.check_names.specs.declared.Scope.{Scope}
-use Rattle.check_names.specs.declared.Walked.{Walked}
-use Rattle.check_names.specs.declared.Walked.TheVariants.{Upto, Faulty}
 use Rattle.check_statements.specs.Answers.{Lists, Done, Answer, Listed}
-use Rattle.check_statements.proofs.ListWalk.{upto_done, faulty-first, done-answer, faulty-answer}
+use Rattle.check_statements.proofs.ListWalk.{upto_done, faulty-first, done-answer, first-answer}
+use Rattle.check_names.specs.Scopes.{Walked}
+use Rattle.std.specs.Prelude.{Ok, Err}
+use Rattle.layout.specs.declared.rules.Breach.{Breach}
 
 -- so many words behind c
 pub record Behind (text code values : List ℕ) (k : Setting) (used c words : ℕ) : Type 0 where
@@ -69,10 +70,10 @@ module _ {text code values : List ℕ} {k : Setting} {used c words : ℕ} (b : B
     behind-answer = l.is behind-lists
 
     -- its fault is the fault of the whole, whatever is to be written of it
-    pub behind-wrong : (raw : Type 0) (number word : ℕ) → r ≡ Faulty number word → Answer behind-faults code one values values' c b.to (used + fors_in_list b.o) raw r
-    behind-wrong raw number word q = faulty-answer _ _ _ _ _ _ _ _ _ r number word q (faulty-first r behind-answer number word q) behind-answer.long
+    pub behind-wrong : (raw : Type 0) (broken : Breach) → r ≡ Err broken → Answer behind-faults code one values values' c b.to (used + fors_in_list b.o) raw (Err broken)
+    behind-wrong raw broken q = first-answer _ _ _ _ _ _ _ _ broken _ (faulty-first r behind-answer broken q) behind-answer.long
 
-    module _ (z : ℕ) (n : Scope) (q : r ≡ Upto z n) where
+    module _ (z : ℕ) (n : Scope) (q : r ≡ Ok (z, n)) where
       pub behind-done : Done behind-faults code one values values' (c + words) b.z (used + fors_in_list b.o) z n.used (behind-raw (cells_of one) (c + words) b.z)
       behind-done = upto_done r behind-answer z n q
 
@@ -94,7 +95,7 @@ module _ {text code values : List ℕ} {k : Setting} {used c words : ℕ} (b : B
             (same-on (same-behind (c + words) b.z first (omega arith)) (same-before (c + words) b.z last (omega (arith, behind-done.next-is)))) behind-done.written)
 
         -- and then what is written of the whole
-        pub behind-right : (raw : Type 0) → raw → length three ≡ length code → Answer behind-faults code three values values' c b.to (used + fors_in_list b.o) raw (Upto (z + 1) n)
+        pub behind-right : (raw : Type 0) → raw → length three ≡ length code → Answer behind-faults code three values values' c b.to (used + fors_in_list b.o) raw (Ok (z + 1, n))
         behind-right raw w long =
             done-answer _ _ _ _ _ _ _ _ _ _ _
             (record {

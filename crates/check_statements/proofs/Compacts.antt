@@ -1,9 +1,8 @@
 -- Simple statements, by themselves and in a compact IF.
 use Rattle.paper.specs.Words.{word_limit}
 use mathlib.Core.Path.{◌≡◌, refl, sym, subst, ◌∙◌}
-use mathlib.Core.Bool.{Bool}
 use mathlib.Core.List.{List}
-use Prim.Native.Nat.{ℕ, ◌+◌, ◌-◌, ◌*◌, ◌<◌, ◌≤◌}
+use Prim.Native.Nat.{ℕ, ◌+◌, ◌*◌, ◌<◌, ◌≤◌}
 use native.Mathlib.Omega.{arith}
 use lib.ListN.{length}
 use Rattle.store_cells.specs.Cells.{cells_of}
@@ -15,8 +14,6 @@ use Rattle.grammar.specs.Form.{Parses, SimpleAt}
 use Rattle.grammar.proofs.Inversions as inversions
 use Rattle.grammar.proofs.Inversions.{statement-plain}
 use Rattle.grammar.proofs.Places.{simple-grows}
-use Rattle.check_expressions.specs.declared.Judged.{Judged}
-use Rattle.check_expressions.specs.declared.Judged.TheVariants as judged
 use Rattle.store_writing.specs.Promises.{Linked}
 use Rattle.store_writing.proofs.Keeping.{place-below}
 use Rattle.faults.proofs.Expressions.{grows}
@@ -27,9 +24,7 @@ use Rattle.check_around.specs.Around.{Around, ground_of, offset_in}
 use Rattle.check_simple.specs.Answers as simples
 use Rattle.check_around.specs.Answers as answered
 use Rattle.check_names.specs.declared.Scope.{Scope}
-use Rattle.check_names.specs.Scopes.{with_used}
-use Rattle.check_names.specs.declared.Walked.{Walked}
-use Rattle.check_names.specs.declared.Walked.TheVariants.{Upto, Faulty}
+use Rattle.check_names.specs.Scopes.{with_used, Walked}
 use Rattle.check_statements.specs.Answers.{Stands, Answer, StatementAnswer}
 use Rattle.check_compounds.specs.Here.{Here}
 use Rattle.check_statements.specs.Parts.{Plain, Plainly, Compacts, Compacted}
@@ -38,6 +33,9 @@ use Rattle.check_compounds.proofs.Frames.{outside_wider, outside-on, kept-outsid
 use Rattle.check_statements.proofs.ListWalk.{as-scope, done-answer, first-answer}
 use Rattle.code.specs.Steps.{a_compact_if}
 use Rattle.check_compounds.proofs.AnswerShapes.{typed-fine, faulty-found}
+use Rattle.check_around.specs.Answers.{Stepped}
+use Rattle.std.specs.Prelude.{Ok, Err}
+use Rattle.layout.specs.declared.rules.Breach.{Breach}
 
 -- ---- a simple statement from t up to its semicolon at n
 module _ (text code values : List ℕ) (a : Around text values) (k : Setting) (used t to : ℕ) (h : Here a code k used t to) (s : Simple) (n : ℕ)
@@ -55,7 +53,7 @@ module _ (text code values : List ℕ) (a : Around text values) (k : Setting) (u
     tells = h.tells;
   }
 
-  pub simple-answers : (one : List ℕ) (j : Judged) → simples.Stated text code values one k t j
+  pub simple-answers : (one : List ℕ) (j : Stepped) → simples.Stated text code values one k t j
       → answered.Answer (simple_faults a.known.W a.K a.known.S s) code one t (n + 1) (RawSimple (ground_of a) a.known.n (cells_of one) a.known.S s t (n + 1)) j
   unfolding simple-stands
   simple-answers one j x = x.is simple-stands
@@ -78,19 +76,19 @@ module _ (text code values : List ℕ) (k : Setting) (used i : ℕ) (g : Plain t
   ForStatement after r t =
       Answer (statement_faults a.known.W a.K a.M t a.known.S used) code after values values i s.to (used + fors_in t) (RawStatement (ground_of a) a.known.n (cells_of after) t a.known.S used i s.to) r
 
-  module _ (one : List ℕ) (j : Judged) (x : simples.Stated text code values one k i j) where
+  module _ (one : List ℕ) (j : Stepped) (x : simples.Stated text code values one k i j) where
     answers : answered.Answer (simple_faults a.known.W a.K a.known.S w.simply) code one i (w.n + 1) (RawSimple (ground_of a) a.known.n (cells_of one) a.known.S w.simply i (w.n + 1)) j
     answers = simple-answers text code values a k used i s.to s.here w.simply w.n w.stands w.ends (omega (arith, w.after)) one j x
 
-    wrong : (number word : ℕ) → j ≡ judged.Faulty number word → StatementAnswer g.stands one values (Faulty number word)
+    wrong : (broken : Breach) → j ≡ Err broken → StatementAnswer g.stands one values (Err broken)
     unfolding statement_faults
-    wrong number word q = subst (ForStatement one (Faulty number word)) (sym w.is) (first-answer _ _ _ _ _ _ _ _ number word _ (faulty-found j answers number word q) answers.long)
+    wrong broken q = subst (ForStatement one (Err broken)) (sym w.is) (first-answer _ _ _ _ _ _ _ _ broken _ (faulty-found j answers broken q) answers.long)
 
-    right : (bool : ℕ) (next : ℕ) → j ≡ judged.Typed bool next → (scope : Scope) → StatementAnswer g.stands one values (Upto next (with_used used scope))
+    right : (next : ℕ) → j ≡ Ok next → (scope : Scope) → StatementAnswer g.stands one values (Ok (next, with_used used scope))
     unfolding statement_faults fors_in RawStatement
-    right bool next q scope =
-        let f = typed-fine j answers bool next q in
-        subst (ForStatement one (Upto next (with_used used scope))) (sym w.is)
+    right next q scope =
+        let f = typed-fine j answers next q in
+        subst (ForStatement one (Ok (next, with_used used scope))) (sym w.is)
         (done-answer _ _ _ _ _ _ _ _ _ _ _
         (record {
           none = f.none;
@@ -103,12 +101,12 @@ module _ (text code values : List ℕ) (k : Setting) (used i : ℕ) (g : Plain t
         })
         answers.long)
 
-module _ (text code values : List ℕ) (k : Setting) (used i : ℕ) (one : List ℕ) (j : Judged) (x : simples.Stated text code values one k i j) where
-  pub plain-wrong : (number word : ℕ) → j ≡ judged.Faulty number word → Plainly text code values one k used i (Faulty number word)
-  plain-wrong number word q = record { is = λ g. wrong text code values k used i g one j x number word q }
+module _ (text code values : List ℕ) (k : Setting) (used i : ℕ) (one : List ℕ) (j : Stepped) (x : simples.Stated text code values one k i j) where
+  pub plain-wrong : (broken : Breach) → j ≡ Err broken → Plainly text code values one k used i (Err broken)
+  plain-wrong broken q = record { is = λ g. wrong text code values k used i g one j x broken q }
 
-  pub plain-right : (bool : ℕ) (next : ℕ) → j ≡ judged.Typed bool next → (scope : Scope) → scope.used ≡ used → Plainly text code values one k used i (Upto next scope)
-  plain-right bool next q scope u = as-scope (Plainly text code values one k used i) next scope u (record { is = λ g. right text code values k used i g one j x bool next q scope })
+  pub plain-right : (next : ℕ) → j ≡ Ok next → (scope : Scope) → scope.used ≡ used → Plainly text code values one k used i (Ok (next, scope))
+  plain-right next q scope u = as-scope (Plainly text code values one k used i) next scope u (record { is = λ g. right text code values k used i g one j x next q scope })
 
 -- ---- behind a condition
 module _ (text code values : List ℕ) (k : Setting) (used i t : ℕ) (g : Compacts text code values k used i t) where
@@ -124,23 +122,23 @@ module _ (text code values : List ℕ) (k : Setting) (used i t : ℕ) (g : Compa
       bound : (t < g.n) × (g.n ≤ g.to) × (g.to * 8 + 8 ≤ length code)
       bound = (forward text code values b k used t g.to g.here g.s g.n g.is g.ends (omega (arith, g.after)), omega (arith, g.after), g.here.unread.loaded.room)
 
-  module _ (one : List ℕ) (j : Judged) (x : simples.Stated text code values one k t j) where
+  module _ (one : List ℕ) (j : Stepped) (x : simples.Stated text code values one k t j) where
     found : answered.Answer (simple_faults b.known.W b.K b.known.S g.s) code one t (g.n + 1) (RawSimple (ground_of b) b.known.n (cells_of one) b.known.S g.s t (g.n + 1)) j
     found = simple-answers text code values b k used t g.to g.here g.s g.n g.is g.ends (omega (arith, g.after)) one j x
 
-    compact-no : (number word : ℕ) → j ≡ judged.Faulty number word → Answer (simple_faults b.known.W b.K b.known.S g.s) code one values values i g.to used
-        (RawStatement (ground_of b) b.known.n (cells_of one) (compact_if i g.e g.s) b.known.S used i g.to) (Faulty number word)
-    compact-no number word q = first-answer _ _ _ _ _ _ _ _ number word _ (faulty-found j found number word q) found.long
+    compact-no : (broken : Breach) → j ≡ Err broken → Answer (simple_faults b.known.W b.K b.known.S g.s) code one values values i g.to used
+        (RawStatement (ground_of b) b.known.n (cells_of one) (compact_if i g.e g.s) b.known.S used i g.to) (Err broken)
+    compact-no broken q = first-answer _ _ _ _ _ _ _ _ broken _ (faulty-found j found broken q) found.long
 
-    module _ (bool : ℕ) (next : ℕ) (q : j ≡ judged.Typed bool next) where
+    module _ (next : ℕ) (q : j ≡ Ok next) where
       f : answered.Fine (simple_faults b.known.W b.K b.known.S g.s) code one t (g.n + 1) next (RawSimple (ground_of b) b.known.n (cells_of one) b.known.S g.s t (g.n + 1))
-      f = typed-fine j found bool next q
+      f = typed-fine j found next q
 
       pub compact-next : (next ≤ word_limit) × (length one ≡ length code)
       compact-next = (omega (arith, f.next-is, g.after, g.here.unread.loaded.last), found.long)
 
       compact-yes : (two : List ℕ) → Linked one two i a_compact_if t next → (scope : Scope) → Answer (simple_faults b.known.W b.K b.known.S g.s) code two values values i g.to used
-          (RawStatement (ground_of b) b.known.n (cells_of two) (compact_if i g.e g.s) b.known.S used i g.to) (Upto next (with_used used scope))
+          (RawStatement (ground_of b) b.known.n (cells_of two) (compact_if i g.e g.s) b.known.S used i g.to) (Ok (next, with_used used scope))
       unfolding RawStatement ground_of offset_in
       compact-yes two l scope =
           let o = linked-outside l in
@@ -166,9 +164,9 @@ module _ (text code values : List ℕ) (k : Setting) (used i t : ℕ) (g : Compa
           })
           (l.kept.long ∙ found.long)
 
-module _ (text code values : List ℕ) (k : Setting) (used i t : ℕ) (one : List ℕ) (j : Judged) (x : simples.Stated text code values one k t j) where
-  pub compact-wrong : (number word : ℕ) → j ≡ judged.Faulty number word → Compacted text code values one k used i t (Faulty number word)
-  compact-wrong number word q = record { is = λ g. compact-no text code values k used i t g one j x number word q }
+module _ (text code values : List ℕ) (k : Setting) (used i t : ℕ) (one : List ℕ) (j : Stepped) (x : simples.Stated text code values one k t j) where
+  pub compact-wrong : (broken : Breach) → j ≡ Err broken → Compacted text code values one k used i t (Err broken)
+  compact-wrong broken q = record { is = λ g. compact-no text code values k used i t g one j x broken q }
 
-  pub compact-right : (bool : ℕ) (next : ℕ) → j ≡ judged.Typed bool next → (two : List ℕ) → Linked one two i a_compact_if t next → (scope : Scope) → scope.used ≡ used → Compacted text code values two k used i t (Upto next scope)
-  compact-right bool next q two l scope u = as-scope (Compacted text code values two k used i t) next scope u (record { is = λ g. compact-yes text code values k used i t g one j x bool next q two l scope })
+  pub compact-right : (next : ℕ) → j ≡ Ok next → (two : List ℕ) → Linked one two i a_compact_if t next → (scope : Scope) → scope.used ≡ used → Compacted text code values two k used i t (Ok (next, scope))
+  compact-right next q two l scope u = as-scope (Compacted text code values two k used i t) next scope u (record { is = λ g. compact-yes text code values k used i t g one j x next q two l scope })

@@ -4,7 +4,7 @@ use Rattle.check_names.specs.Promises.{store_bytes}
 use Rattle.layout.specs.Parts.{link_part}
 use mathlib.Core.Path.{◌≡◌, refl, sym, ap, subst, ◌∙◌}
 use mathlib.Core.List.{List}
-use Prim.Native.Nat.{ℕ, ◌+◌, ◌-◌, ◌*◌, ◌<◌, ◌≤◌}
+use Prim.Native.Nat.{ℕ, ◌+◌, ◌*◌, ◌<◌, ◌≤◌}
 use native.Mathlib.Omega.{arith}
 use lib.ListN.{length}
 use Rattle.store_cells.specs.Cells.{cells_of}
@@ -23,9 +23,7 @@ use Rattle.check_links.specs.Raw.{RawWord, at_once, closed, RawDefault, RawList}
 use Rattle.check_around.specs.declared.Setting.{Setting}
 use Rattle.check_around.specs.Around.{Around, ground_of}
 use Rattle.check_names.specs.declared.Scope.{Scope}
-use Rattle.check_names.specs.Scopes.{with_used}
-use Rattle.check_names.specs.declared.Walked.{Walked}
-use Rattle.check_names.specs.declared.Walked.TheVariants.{Upto, Faulty}
+use Rattle.check_names.specs.Scopes.{with_used, Walked}
 use Rattle.check_statements.specs.Answers.{Lists, Answer, Listed}
 use Rattle.check_statements.specs.Parts.{Defaults, Defaulted}
 use Rattle.check_statements.proofs.Same.{same-values}
@@ -34,6 +32,8 @@ use Rattle.check_statements.proofs.Behind.{Behind, behind-lists, behind-wrong, b
 use Rattle.check_statements.proofs.ListWalk.{as-scope, done-answer}
 use Rattle.check_compounds.proofs.Frames.{rewritten-outside}
 use Rattle.code.specs.Steps.{a_pass, an_otherwise}
+use Rattle.std.specs.Prelude.{Ok, Err}
+use Rattle.layout.specs.declared.rules.Breach.{Breach}
 
 -- a word that is written with its place
 module _ {before after : List ℕ} {i op : ℕ} (place link : ℕ) (r : Rewritten before after i op (tail_with place link)) (room : i * 8 + 8 ≤ length before) where
@@ -68,7 +68,7 @@ module _ (text code values : List ℕ) (k : Setting) (used c : ℕ) (g : Default
     sort-is : sort_in a.known.W c ≡ s
     sort-is = sym (es ∙ (g.here.unread.loaded.words c (omega arith) (omega (arith, order, g.after))).sort)
 
-    no : (s ≡ DEFAULT → ⊥) → (one : List ℕ) → Rewritten code one c an_otherwise (tail_with (c + 1) (c + 1)) → (scope : Scope) → ForDefault one values (Upto (c + 1) (with_used used scope))
+    no : (s ≡ DEFAULT → ⊥) → (one : List ℕ) → Rewritten code one c an_otherwise (tail_with (c + 1) (c + 1)) → (scope : Scope) → ForDefault one values (Ok (c + 1, with_used used scope))
     unfolding list_faults fors_in_list RawList
     no f one l scope =
         let q = default_none (sort_in a.known.W) (Parses (sort_in a.known.W)) g.is (λ e. f (sym sort-is ∙ e)) in
@@ -114,17 +114,17 @@ module _ (text code values : List ℕ) (k : Setting) (used c : ℕ) (g : Default
       default-lists = behind-lists behind
 
       module _ (one values' : List ℕ) (r : Walked) (l : Listed text code values one values' k used (c + 2) r) where
-        wrong : (number word : ℕ) → r ≡ Faulty number word → ForDefault one values' r
-        wrong number word q = behind-wrong behind one values' r l _ number word q
+        wrong : (broken : Breach) → r ≡ Err broken → ForDefault one values' (Err broken)
+        wrong broken q = behind-wrong behind one values' r l _ broken q
 
-        module _ (z : ℕ) (n : Scope) (q : r ≡ Upto z n) where
+        module _ (z : ℕ) (n : Scope) (q : r ≡ Ok (z, n)) where
           closes : (c + 2 ≤ z) × (z < 8191) × (z + 1 ≡ g.to) × (length one ≡ length code)
           closes = behind-closes behind one values' r l z n q
 
           pub default-closes : (c + 1 < z) × (z < 8191) × (c * 8 + 8 ≤ length one) × (store_bytes ≤ length one)
           default-closes = (omega (arith, closes), closes.1, omega (arith, default-room, closes), omega (arith, default-room, closes))
 
-          yes : (two three : List ℕ) → Rewritten one two c an_otherwise (tail_with (c + 2) z) → Linked two three z a_pass 0 (z + 1) → ForDefault three values' (Upto (z + 1) n)
+          yes : (two three : List ℕ) → Rewritten one two c an_otherwise (tail_with (c + 2) z) → Linked two three z a_pass 0 (z + 1) → ForDefault three values' (Ok (z + 1, n))
           yes two three x y =
               let o = rewritten-outside x default-closes.2 in
               let p = linked-outside y in
@@ -145,12 +145,12 @@ module _ (text code values : List ℕ) (k : Setting) (used c : ℕ) (g : Default
 -- ---- for whatever it is
 module _ (text code values : List ℕ) (k : Setting) (used c s : ℕ) (es : s ≡ op_at (cells_of code) c) where
   pub default-no : (s ≡ DEFAULT → ⊥) → (one : List ℕ) → Rewritten code one c an_otherwise (tail_with (c + 1) (c + 1)) → (scope : Scope) → scope.used ≡ used
-      → Defaulted text code values one values k used c (Upto (c + 1) scope)
+      → Defaulted text code values one values k used c (Ok (c + 1, scope))
   default-no f one l scope u = as-scope (Defaulted text code values one values k used c) (c + 1) scope u (record { is = λ g. no text code values k used c g s es f one l scope })
 
   module _ (e : s ≡ DEFAULT) (one values' : List ℕ) (r : Walked) (l : Listed text code values one values' k used (c + 2) r) where
-    pub default-wrong : (number word : ℕ) → r ≡ Faulty number word → Defaulted text code values one values' k used c r
-    default-wrong number word q = record { is = λ g. wrong text code values k used c g s es e one values' r l number word q }
+    pub default-wrong : (broken : Breach) → r ≡ Err broken → Defaulted text code values one values' k used c (Err broken)
+    default-wrong broken q = record { is = λ g. wrong text code values k used c g s es e one values' r l broken q }
 
-    pub default-yes : (z : ℕ) (n : Scope) → r ≡ Upto z n → (two three : List ℕ) → Rewritten one two c an_otherwise (tail_with (c + 2) z) → Linked two three z a_pass 0 (z + 1) → Defaulted text code values three values' k used c (Upto (z + 1) n)
+    pub default-yes : (z : ℕ) (n : Scope) → r ≡ Ok (z, n) → (two three : List ℕ) → Rewritten one two c an_otherwise (tail_with (c + 2) z) → Linked two three z a_pass 0 (z + 1) → Defaulted text code values three values' k used c (Ok (z + 1, n))
     default-yes z n q two three x y = record { is = λ g. yes text code values k used c g s es e one values' r l z n q two three x y }

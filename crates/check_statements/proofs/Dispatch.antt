@@ -15,9 +15,9 @@ use Rattle.grammar.specs.Form.{Parses}
 use Rattle.grammar.proofs.Places.{statement-grows}
 use Rattle.faults.proofs.Expressions.{grows}
 use Rattle.check_around.specs.declared.Setting.{Setting}
-use Rattle.check_names.specs.declared.Walked.{Walked}
 use Rattle.check_statements.specs.Answers.{Stands, Stated, Begins, Begun}
 use Rattle.check_statements.specs.Parts.{Plain, Plainly}
+use Rattle.check_names.specs.Scopes.{Walked}
 
 module _ (text code values : List ℕ) (k : Setting) (used i : ℕ) where
   forward : (g : Stands text code values k used i) → i < g.to

@@ -3,7 +3,7 @@ use Rattle.paper.specs.Words.{word_limit}
 use Rattle.check_names.specs.Promises.{store_bytes}
 use mathlib.Core.Path.{◌≡◌, refl, sym, ap, subst, ◌∙◌}
 use mathlib.Core.List.{List}
-use Prim.Native.Nat.{ℕ, ◌+◌, ◌-◌, ◌<◌, ◌≤◌}
+use Prim.Native.Nat.{ℕ, ◌+◌, ◌<◌, ◌≤◌}
 use native.Mathlib.Omega.{arith}
 use lib.ListN.{length}
 use Rattle.store_cells.specs.Cells.{cells_of}
@@ -21,9 +21,7 @@ use Rattle.check_links.specs.Raw.{RawWord, an-else, no-else, RawElse, RawList}
 use Rattle.check_around.specs.declared.Setting.{Setting}
 use Rattle.check_around.specs.Around.{Around, ground_of}
 use Rattle.check_names.specs.declared.Scope.{Scope}
-use Rattle.check_names.specs.Scopes.{with_used}
-use Rattle.check_names.specs.declared.Walked.{Walked}
-use Rattle.check_names.specs.declared.Walked.TheVariants.{Upto, Faulty}
+use Rattle.check_names.specs.Scopes.{with_used, Walked}
 use Rattle.check_statements.specs.Answers.{Lists, Answer, Listed}
 use Rattle.check_statements.specs.Parts.{Elses, ElseWritten, Elsed}
 use Rattle.check_statements.proofs.Same.{same-values}
@@ -31,6 +29,8 @@ use Rattle.check_compounds.proofs.Frames.{outside_wider, same-before, word_same,
 use Rattle.check_statements.proofs.Behind.{Behind, behind-lists, behind-wrong, behind-closes, behind-list, behind-right}
 use Rattle.check_statements.proofs.ListWalk.{as-scope, done-answer}
 use Rattle.code.specs.Steps.{a_pass}
+use Rattle.std.specs.Prelude.{Ok, Err}
+use Rattle.layout.specs.declared.rules.Breach.{Breach}
 
 module _ (text code values : List ℕ) (k : Setting) (used c : ℕ) (g : Elses text code values k used c) where
   abbrev a : Around text values
@@ -55,7 +55,7 @@ module _ (text code values : List ℕ) (k : Setting) (used c : ℕ) (g : Elses t
     sort-is : sort_in a.known.W c ≡ s
     sort-is = sym (es ∙ (g.here.unread.loaded.words c (omega arith) (omega (arith, order, g.after))).sort)
 
-    no : (s ≡ ELSE → ⊥) → (one : List ℕ) → Linked code one c a_pass 0 (c + 1) → (scope : Scope) → ForElse one values (Upto (c + 1) (with_used used scope))
+    no : (s ≡ ELSE → ⊥) → (one : List ℕ) → Linked code one c a_pass 0 (c + 1) → (scope : Scope) → ForElse one values (Ok (c + 1, with_used used scope))
     unfolding list_faults fors_in_list RawList
     no f one l scope =
         let q = else-none (sort_in a.known.W) (Parses (sort_in a.known.W)) g.is (λ e. f (sym sort-is ∙ e)) in
@@ -103,17 +103,17 @@ module _ (text code values : List ℕ) (k : Setting) (used c : ℕ) (g : Elses t
       else-lists = behind-lists behind
 
       module _ (one values' : List ℕ) (r : Walked) (l : Listed text code values one values' k used (c + 1) r) where
-        wrong : (number word : ℕ) → r ≡ Faulty number word → ForElse one values' r
-        wrong number word q = behind-wrong behind one values' r l _ number word q
+        wrong : (broken : Breach) → r ≡ Err broken → ForElse one values' (Err broken)
+        wrong broken q = behind-wrong behind one values' r l _ broken q
 
-        module _ (z : ℕ) (n : Scope) (q : r ≡ Upto z n) where
+        module _ (z : ℕ) (n : Scope) (q : r ≡ Ok (z, n)) where
           closes : (c + 1 ≤ z) × (z < 8191) × (z + 1 ≡ g.to) × (length one ≡ length code)
           closes = behind-closes behind one values' r l z n q
 
           pub else-closes : (c < z) × (z < 8191) × (length one ≡ length code)
           else-closes = (omega (arith, closes), closes.1, closes.3)
 
-          yes : (two three : List ℕ) → Linked one two c a_pass 0 z → Linked two three z a_pass 0 (z + 1) → ForElse three values' (Upto (z + 1) n)
+          yes : (two three : List ℕ) → Linked one two c a_pass 0 z → Linked two three z a_pass 0 (z + 1) → ForElse three values' (Ok (z + 1, n))
           yes two three x y =
               let p = linked-outside y in
               behind-right behind one values' r l z n q two three (linked-outside x) p (omega arith) _
@@ -133,12 +133,12 @@ module _ (text code values : List ℕ) (k : Setting) (used c : ℕ) (g : Elses t
 
 -- ---- for whatever it is
 module _ (text code values : List ℕ) (k : Setting) (used c s : ℕ) (es : s ≡ op_at (cells_of code) c) where
-  pub else-no : (s ≡ ELSE → ⊥) → (one : List ℕ) → Linked code one c a_pass 0 (c + 1) → (scope : Scope) → scope.used ≡ used → Elsed text code values one values k used c (Upto (c + 1) scope)
+  pub else-no : (s ≡ ELSE → ⊥) → (one : List ℕ) → Linked code one c a_pass 0 (c + 1) → (scope : Scope) → scope.used ≡ used → Elsed text code values one values k used c (Ok (c + 1, scope))
   else-no f one l scope u = as-scope (Elsed text code values one values k used c) (c + 1) scope u (record { is = λ g. no text code values k used c g s es f one l scope })
 
   module _ (e : s ≡ ELSE) (one values' : List ℕ) (r : Walked) (l : Listed text code values one values' k used (c + 1) r) where
-    pub else-wrong : (number word : ℕ) → r ≡ Faulty number word → Elsed text code values one values' k used c r
-    else-wrong number word q = record { is = λ g. wrong text code values k used c g s es e one values' r l number word q }
+    pub else-wrong : (broken : Breach) → r ≡ Err broken → Elsed text code values one values' k used c (Err broken)
+    else-wrong broken q = record { is = λ g. wrong text code values k used c g s es e one values' r l broken q }
 
-    pub else-yes : (z : ℕ) (n : Scope) → r ≡ Upto z n → (two three : List ℕ) → Linked one two c a_pass 0 z → Linked two three z a_pass 0 (z + 1) → Elsed text code values three values' k used c (Upto (z + 1) n)
+    pub else-yes : (z : ℕ) (n : Scope) → r ≡ Ok (z, n) → (two three : List ℕ) → Linked one two c a_pass 0 z → Linked two three z a_pass 0 (z + 1) → Elsed text code values three values' k used c (Ok (z + 1, n))
     else-yes z n q two three x y = record { is = λ g. yes text code values k used c g s es e one values' r l z n q two three x y }

@@ -2,7 +2,7 @@
 use Rattle.paper.specs.Words.{word_limit}
 use Rattle.layout.specs.Parts.{link_part}
 use mathlib.Core.Path.{◌≡◌, refl, sym, ap, subst, ◌∙◌}
-use mathlib.Core.Bool.{Bool, false}
+use mathlib.Core.Bool.{false}
 use mathlib.Core.List.{List, [], ◌++◌}
 use mathlib.Core.Option.{Option, none, some}
 use Prim.Native.Nat.{ℕ, suc, ◌+◌, ◌-◌, ◌*◌, ◌/◌, ◌%◌, ◌<◌, ◌≤◌}
@@ -12,11 +12,10 @@ use Rattle.store_cells.specs.Cells.{cells_of}
 use Rattle.paper.specs.Sorts.{FOR}
 use Rattle.paper.specs.Terms.{of_routine}
 use Rattle.paper.specs.Trees.{Expr, Statement}
-use Rattle.paper.specs.Names.{a_num, Scopes, sort_in, spelled, cannot_declare, hides_own, enter}
-use Rattle.paper.specs.Types.{Fault, fault_if, of_type}
-use Rattle.paper.specs.Declarations.{routine_word_limit, crosses}
+use Rattle.paper.specs.Names.{a_num, Scopes, sort_in, spelled, hides_own, enter}
+use Rattle.paper.specs.Types.{Fault, of_type}
 use Rattle.paper.specs.Checks.{fors_in, fors_in_list, optional_num, statement_faults, list_faults}
-use Rattle.code.specs.Cells.{op_in, value_in, place_in, link_in, head_at, tail_at, place_at, link_at}
+use Rattle.code.specs.Cells.{op_in, value_in, place_in, link_in, head_at, tail_at, place_at}
 use Rattle.check_names.specs.Numbers.{number_of}
 use Rattle.check_names.specs.Meanings.{is_protected}
 use Rattle.check_names.specs.Promises.{number_at, Declared, Links, Left, store_bytes, number_limit}
@@ -26,8 +25,6 @@ use Rattle.store_writing.proofs.Keeping.{place-below, linked-place}
 use Rattle.grammar.specs.Form.{Parses}
 use Rattle.grammar.proofs.Inversions.{IsFor, statement-for}
 use Rattle.grammar.proofs.Places.{list-grows, step-grows}
-use Rattle.check_expressions.specs.declared.Judged.{Judged}
-use Rattle.check_expressions.specs.declared.Judged.TheVariants as judged
 use Rattle.faults.specs.First.{First, Inside}
 use Rattle.faults.proofs.First.{first-before, first-after, nothing-in-both}
 use Rattle.faults.proofs.Expressions.{grows}
@@ -37,22 +34,23 @@ use Rattle.check_links.proofs.Orders.{bound-order, step-order}
 use Rattle.check_around.specs.declared.Setting.{Setting}
 use Rattle.check_around.specs.Around.{Around, ground_of, offset_in}
 use Rattle.check_around.specs.Answers as answered
-use Rattle.check_names.specs.Scopes.{with_used, EachHasWord, Enters, Leaves, Grown}
+use Rattle.check_names.specs.Scopes.{with_used, EachHasWord, Enters, Leaves, Grown, Walked}
 use Rattle.check_names.proofs.Growing.{loop-has-word, loop-opened, loop-left}
-use Rattle.check_names.specs.declared.Walked.{Walked}
-use Rattle.check_names.specs.declared.Walked.TheVariants.{Upto, Faulty}
 use Rattle.check_statements.specs.Answers.{SameValues, Stands, Lists, Done, Answer, StatementAnswer, Listed, Begins, Begun}
 use Rattle.check_compounds.specs.Here.{Outside}
 use Rattle.check_compounds.specs.Parts.{ForHeads, name_faults, RawHead, ForMay, ForHeaded, ForEnded}
 use Rattle.check_compounds.proofs.Frames.{outside_wider, outside-on, kept-outside, same-before, same-behind, same-on, head-before, tail-before, bound-same, list_same, op_same, value_same, place_same, word_same, linked-outside, linked-word}
-use Rattle.check_statements.proofs.ListWalk.{as-scope, upto_done, faulty-first, done-answer, first-answer, faulty-answer}
+use Rattle.check_statements.proofs.ListWalk.{as-scope, upto_done, faulty-first, done-answer, first-answer}
 use Rattle.check_compounds.proofs.AnswerShapes.{typed-fine, faulty-found}
 use Rattle.check_compounds.proofs.Heads.{head-inside}
 use Rattle.check_compounds.proofs.Frames.{rewritten-outside}
 use Rattle.check_statements.proofs.ForScope.{inner, enters, leaves-links, leaves}
 use Rattle.code.specs.Steps.{a_for, a_for_test}
-use Rattle.layout.specs.Rules.{too_many, taken_name, hiding_loop}
 use Rattle.layout.specs.Kinds.{a_loop, cell_with}
+use Rattle.check_around.specs.Answers.{Stepped}
+use Rattle.std.specs.Prelude.{Ok, Err}
+use Rattle.layout.specs.Broken.{as_fault}
+use Rattle.layout.specs.declared.rules.Breach.{Breach}
 
 step_same : (g : Ground) (n : ℕ) (C D : List ℕ) (S : Scopes) (c : Option Expr) (s d : ℕ) → SameWords C D s d → RawStep g n C S c s d → RawStep g n D S c s d
 unfolding RawStep
@@ -126,20 +124,20 @@ module _ (text code values : List ℕ) (k : Setting) (used i : ℕ) (g : Begins 
   room_for : used < a.known.n
   room_for = omega (arith, counted)
 
-  module _ (one : List ℕ) (j : Judged) (h : ForHeaded code values one used i j) where
+  module _ (one : List ℕ) (j : Stepped) (h : ForHeaded code values one used i j) where
     ha : answered.Answer head-faults code one (i + 2) w.do_at (ForMay (ground_of a) a.known.n (cells_of one) a.known.S used w.a w.b w.c i w.do_at) j
     unfolding heads
     ha = h.is heads
 
-    wrong : (number word : ℕ) → j ≡ judged.Faulty number word → StatementAnswer g.stands one values (Faulty number word)
+    wrong : (broken : Breach) → j ≡ Err broken → StatementAnswer g.stands one values (Err broken)
     unfolding statement_faults
-    wrong number word q =
-        subst (ForStatement one values (Faulty number word)) (sym w.is)
-        (first-answer _ _ _ _ _ _ _ _ number word _ (first-before (faulty-found j ha number word q) in_head (in-body (suc used)) (omega arith)) ha.long)
+    wrong broken q =
+        subst (ForStatement one values (Err broken)) (sym w.is)
+        (first-answer _ _ _ _ _ _ _ _ broken _ (first-before (faulty-found j ha broken q) in_head (in-body (suc used)) (omega arith)) ha.long)
 
-    module _ (bool : ℕ) (d : ℕ) (q : j ≡ judged.Typed bool d) where
+    module _ (d : ℕ) (q : j ≡ Ok d) where
       f : answered.Fine head-faults code one (i + 2) w.do_at d (ForMay (ground_of a) a.known.n (cells_of one) a.known.S used w.a w.b w.c i w.do_at)
-      f = typed-fine j ha bool d q
+      f = typed-fine j ha d q
 
       number : number_at (cells_of one) (i + 1) ≡ number_of a.known.W (i + 1)
       number = ap (λ (v : ℕ). v / 256 % number_limit) (head-before (kept-outside f.kept) (i + 1) (omega arith)) ∙ (s.here.unread.loaded.words (i + 1) (omega arith) (omega (arith, orders, last))).number w.head.name
@@ -199,13 +197,13 @@ module _ (text code values : List ℕ) (k : Setting) (used i : ℕ) (g : Begins 
           unfolding lists ground_of
           body = (subst (λ (v : ℕ). Listed text two values' three values'' k (used + 1) (v + 1) r) f.next-is l).is lists
 
-          list-wrong : (number word : ℕ) → r ≡ Faulty number word → StatementAnswer g.stands three values'' r
+          list-wrong : (broken : Breach) → r ≡ Err broken → StatementAnswer g.stands three values'' (Err broken)
           unfolding statement_faults
-          list-wrong number word e =
-              subst (ForStatement three values'' r) (sym w.is)
-              (faulty-answer _ _ _ _ _ _ _ _ _ r number word e (first-after f.none (subst (λ (v : ℕ). First (record { number = number; at = word }) (body-faults v)) next-is (faulty-first r body number word e))) (body.long ∙ long-two))
+          list-wrong broken e =
+              subst (ForStatement three values'' (Err broken)) (sym w.is)
+              (first-answer _ _ _ _ _ _ _ _ broken _ (first-after f.none (subst (λ (v : ℕ). First (as_fault broken) (body-faults v)) next-is (faulty-first r body broken e))) (body.long ∙ long-two))
 
-          module _ (e : ℕ) (n : Scope) (q2 : r ≡ Upto e n) where
+          module _ (e : ℕ) (n : Scope) (q2 : r ≡ Ok (e, n)) where
             done : Done (body-faults (used + 1)) two three values' values'' (w.do_at + 1) w.end (used + 1 + fors_in_list w.body) e n.used
                 (RawList (ground_of a) a.known.n (cells_of three) w.body S' (used + 1) (w.do_at + 1) w.end)
             done = upto_done r body e n q2
@@ -310,10 +308,10 @@ module _ (text code values : List ℕ) (k : Setting) (used i : ℕ) (g : Begins 
                   (outside_wider i s.to at-do (omega (arith, orders)) (omega (arith, orders, last)))) (outside_wider i s.to at-for (omega arith) (omega (arith, orders, last))))
                   (outside_wider i s.to at-end (omega (arith, orders)) (omega (arith, last)))
 
-              finished : (outer : Scope) → StatementAnswer g.stands four values''' (Upto (e + 1) (with_used n.used outer))
+              finished : (outer : Scope) → StatementAnswer g.stands four values''' (Ok (e + 1, with_used n.used outer))
               unfolding statement_faults fors_in RawStatement ground_of
               finished outer =
-                  subst (ForStatement four values''' (Upto (e + 1) (with_used n.used outer))) (sym w.is)
+                  subst (ForStatement four values''' (Ok (e + 1, with_used n.used outer))) (sym w.is)
                   (done-answer _ _ _ _ _ _ _ _ _ _ _
                   (record {
                     none = nothing-in-both f.none (subst (λ (v : ℕ). body-faults v ≡ []) next-is done.none);
@@ -355,20 +353,20 @@ pub for-listed : {text code values after values' : List ℕ} {k : Setting} {n at
 for-listed {text} {code} {values} {after} {values'} {k} {n} {at} {r} e l = subst (λ (v : ℕ). Listed text code values after values' k v at r) e l
 
 -- ---- for whatever the statement is
-module _ (text code values : List ℕ) (k : Setting) (used i : ℕ) (one : List ℕ) (j : Judged) (h : ForHeaded code values one used i j) where
-  pub for-wrong : (number word : ℕ) → j ≡ judged.Faulty number word → Begun FOR text code values one values k used i (Faulty number word)
-  for-wrong number word q = record { is = λ g. wrong text code values k used i g one j h number word q }
+module _ (text code values : List ℕ) (k : Setting) (used i : ℕ) (one : List ℕ) (j : Stepped) (h : ForHeaded code values one used i j) where
+  pub for-wrong : (broken : Breach) → j ≡ Err broken → Begun FOR text code values one values k used i (Err broken)
+  for-wrong broken q = record { is = λ g. wrong text code values k used i g one j h broken q }
 
-  module _ (bool : ℕ) (d : ℕ) (q : j ≡ judged.Typed bool d) (m : ℕ) (em : m ≡ cell_with a_loop 0 1 used) (two values' : List ℕ) (dec : Declared one values (i + 1) m two values')
+  module _ (d : ℕ) (q : j ≡ Ok d) (m : ℕ) (em : m ≡ cell_with a_loop 0 1 used) (two values' : List ℕ) (dec : Declared one values (i + 1) m two values')
       (u : ℕ) (ei : u ≡ used + 1) (three values'' : List ℕ) (r : Walked) (listed : Listed text two values' three values'' k u (d + 1) r) where
     l : Listed text two values' three values'' k (used + 1) (d + 1) r
     l = for-listed ei listed
 
-    pub for-list-wrong : (number word : ℕ) → r ≡ Faulty number word → Begun FOR text code values three values'' k used i r
-    for-list-wrong number word e = record { is = λ g. list-wrong text code values k used i g one j h bool d q m em two values' dec three values'' r l number word e }
+    pub for-list-wrong : (broken : Breach) → r ≡ Err broken → Begun FOR text code values three values'' k used i (Err broken)
+    for-list-wrong broken e = record { is = λ g. list-wrong text code values k used i g one j h d q m em two values' dec three values'' r l broken e }
 
-    pub for-finished : (e : ℕ) (n : Scope) → r ≡ Upto e n → (four values''' : List ℕ) → Left three values'' (i + 1) values''' → (back : Scope) → back.used ≡ n.used → ForEnded three four used i d e
-        → Begun FOR text code values four values''' k used i (Upto (e + 1) back)
+    pub for-finished : (e : ℕ) (n : Scope) → r ≡ Ok (e, n) → (four values''' : List ℕ) → Left three values'' (i + 1) values''' → (back : Scope) → back.used ≡ n.used → ForEnded three four used i d e
+        → Begun FOR text code values four values''' k used i (Ok (e + 1, back))
     for-finished e n q2 four values''' left back eo x =
         as-scope (Begun FOR text code values four values''' k used i) (e + 1) back eo
-        (record { is = λ g. finished text code values k used i g one j h bool d q m em two values' dec three values'' r l e n q2 four values''' left x back })
+        (record { is = λ g. finished text code values k used i g one j h d q m em two values' dec three values'' r l e n q2 four values''' left x back })

@@ -1,7 +1,7 @@
 -- IF: its condition, and then a simple statement or arms.
 use Rattle.paper.specs.Words.{word_limit}
 use mathlib.Core.Path.{◌≡◌, refl, sym, ap, subst, ◌∙◌}
-use mathlib.Core.Bool.{Bool, true, false}
+use mathlib.Core.Bool.{true, false}
 use mathlib.Core.List.{List, [], ◌++◌}
 use Prim.Native.Nat.{ℕ, ◌+◌, ◌-◌, ◌*◌, ◌<◌, ◌≤◌}
 use native.Mathlib.Omega.{arith}
@@ -19,8 +19,6 @@ use Rattle.code.specs.Cells.{op_at, place_at}
 use Rattle.grammar.specs.Form.{Parses}
 use Rattle.grammar.proofs.Inversions.{CompactIf, FullIf, IsIf, statement-if, simple-starts}
 use Rattle.grammar.proofs.Places.{simple-grows, else-grows}
-use Rattle.check_expressions.specs.declared.Judged.{Judged}
-use Rattle.check_expressions.specs.declared.Judged.TheVariants as judged
 use Rattle.store_writing.specs.Promises.{Kept}
 use Rattle.store_writing.proofs.Keeping.{place-below}
 use Rattle.check_expressions.specs.Answers.{OfType}
@@ -32,8 +30,6 @@ use Rattle.faults.proofs.Statements.{simple-inside, list_inside, else-inside}
 use Rattle.check_links.specs.Raw.{RawTerm, RawStatement}
 use Rattle.check_around.specs.declared.Setting.{Setting}
 use Rattle.check_around.specs.Around.{Around, ground_of, offset_in}
-use Rattle.check_names.specs.declared.Walked.{Walked}
-use Rattle.check_names.specs.declared.Walked.TheVariants.{Faulty}
 use Rattle.check_compounds.specs.Here.{Outside, Here}
 use Rattle.check_statements.specs.Answers.{Stands, Answer, StatementAnswer, Begins, Begun}
 use Rattle.check_statements.specs.Parts.{Compacts, Compacted, ThenAt, Thens, Thened}
@@ -41,8 +37,12 @@ use Rattle.check_compounds.proofs.Frames.{outside_wider, kept-outside, here_on, 
 use Rattle.check_compounds.proofs.ExpressionsJudged.{inside_both, expression-stands, judged-faulty, judged-long, judged-none, judged-next, judged-term, judged-kept}
 use Rattle.check_statements.proofs.ListWalk.{first-answer, answer-behind}
 use Rattle.check_statements.proofs.Arms.{then-order, rest-inside}
-use Rattle.layout.specs.Types.{bool_type}
-use Rattle.layout.proofs.Typing.{bool-in}
+use Rattle.layout.specs.declared.types.ValueType.{ValueType}
+use Rattle.layout.specs.declared.types.ValueType.TheVariants.{Bool}
+use Rattle.check_names.specs.Scopes.{Walked}
+use Rattle.check_expressions.specs.Judgements.{Judged}
+use Rattle.std.specs.Prelude.{Ok, Err}
+use Rattle.layout.specs.declared.rules.Breach.{Breach}
 
 -- no operator starts a statement
 none-starts : (w : ℕ) → (w ≡ NAME → ⊥) → (w ≡ RETURN → ⊥) → (w ≡ RAISE → ⊥) → (w ≡ EXIT → ⊥) → (w ≡ RETRY → ⊥) → (w ≡ TRYNEXT → ⊥) → (w ≡ TPWRITE → ⊥) → (w ≡ TPREADNUM → ⊥) → starts_simple w ≡ false
@@ -107,12 +107,12 @@ module _ (text code values : List ℕ) (k : Setting) (used i : ℕ) (g : Begins 
   condition-inside : Inside (i + 1) w.n (of_type a.known.W a_bool a.known.S w.e)
   condition-inside = of-type-inside a.known.W _ _ _ _ w.condition a_bool a.known.S
 
-  module _ (one : List ℕ) (j : Judged) (c : OfType code values one false bool_type (i + 1) j) where
-    wrong : (number word : ℕ) → j ≡ judged.Faulty number word → StatementAnswer g.stands one values (Faulty number word)
+  module _ (one : List ℕ) (j : Judged) (c : OfType code values one false Bool (i + 1) j) where
+    wrong : (broken : Breach) → j ≡ Err broken → StatementAnswer g.stands one values (Err broken)
     unfolding statement_faults fors_in
-    wrong number word q =
-        let long = judged-long text code values a k used i s.to s.here w.e (i + 1) w.n w.condition bounded.0 (omega arith) (omega (arith, bounded)) one bool_type a_bool bool-in j c in
-        let c2 = judged-faulty text code values a k used i s.to s.here w.e (i + 1) w.n w.condition bounded.0 (omega arith) (omega (arith, bounded)) one bool_type a_bool bool-in j c number word q in
+    wrong broken q =
+        let long = judged-long text code values a k used i s.to s.here w.e (i + 1) w.n w.condition bounded.0 (omega arith) (omega (arith, bounded)) one Bool a_bool refl j c in
+        let c2 = judged-faulty text code values a k used i s.to s.here w.e (i + 1) w.n w.condition bounded.0 (omega arith) (omega (arith, bounded)) one Bool a_bool refl j c broken q in
         by-same (sort_in a.known.W w.n) THEN
         (λ e.
         let f = w.full e in
@@ -124,24 +124,24 @@ module _ (text code values : List ℕ) (k : Setting) (used i : ℕ) (g : Begins 
         let f2 = first-before f1 j1 i3 (omega arith) in
         let j2 = inside_both j1 i3 (omega (arith, begins, full-order f e)) (omega (arith, full-order f e)) in
         let f3 = first-before f2 j2 i4 (omega arith) in
-        subst (ForStatement one values (Faulty number word)) (sym f.is) (first-answer _ _ _ _ _ _ _ _ number word _ f3 long))
+        subst (ForStatement one values (Err broken)) (sym f.is) (first-answer _ _ _ _ _ _ _ _ broken _ f3 long))
         (λ n.
         let f = w.compact n in
         let i2 = simple-inside a.known.W a.K a.known.S f.stands in
-        subst (ForStatement one values (Faulty number word)) (sym f.is) (first-answer _ _ _ _ _ _ _ _ number word _ (first-before c2 condition-inside i2 (omega arith)) long))
+        subst (ForStatement one values (Err broken)) (sym f.is) (first-answer _ _ _ _ _ _ _ _ broken _ (first-before c2 condition-inside i2 (omega arith)) long))
 
-    module _ (bool : ℕ) (t : ℕ) (q : j ≡ judged.Typed bool t) where
+    module _ (type : ValueType) (t : ℕ) (q : j ≡ Ok (type, t)) where
       at-is : t ≡ w.n
-      at-is = judged-next text code values a k used i s.to s.here w.e (i + 1) w.n w.condition bounded.0 (omega arith) (omega (arith, bounded)) one bool_type a_bool bool-in j c bool t q
+      at-is = judged-next text code values a k used i s.to s.here w.e (i + 1) w.n w.condition bounded.0 (omega arith) (omega (arith, bounded)) one Bool a_bool refl j c type t q
 
       fine : of_type a.known.W a_bool a.known.S w.e ≡ []
-      fine = judged-none text code values a k used i s.to s.here w.e (i + 1) w.n w.condition bounded.0 (omega arith) (omega (arith, bounded)) one bool_type a_bool bool-in j c bool t q
+      fine = judged-none text code values a k used i s.to s.here w.e (i + 1) w.n w.condition bounded.0 (omega arith) (omega (arith, bounded)) one Bool a_bool refl j c type t q
 
       term : RawTerm (ground_of a) a.known.n (cells_of one) a.known.S w.e (i + 1) w.n
-      term = judged-term text code values a k used i s.to s.here w.e (i + 1) w.n w.condition bounded.0 (omega arith) (omega (arith, bounded)) one bool_type a_bool bool-in j c bool t q
+      term = judged-term text code values a k used i s.to s.here w.e (i + 1) w.n w.condition bounded.0 (omega arith) (omega (arith, bounded)) one Bool a_bool refl j c type t q
 
       kept : Kept code one (i + 1) w.n
-      kept = judged-kept text code values a k used i s.to s.here w.e (i + 1) w.n w.condition bounded.0 (omega arith) (omega (arith, bounded)) one bool_type a_bool bool-in j c bool t q
+      kept = judged-kept text code values a k used i s.to s.here w.e (i + 1) w.n w.condition bounded.0 (omega arith) (omega (arith, bounded)) one Bool a_bool refl j c type t q
 
       next_here : Here a one k used w.n s.to
       next_here =
@@ -238,13 +238,13 @@ module _ (text code values : List ℕ) (k : Setting) (used i : ℕ) (g : Begins 
               ((subst (λ (y : ℕ). Thened text one values two values' k used i y r) at-is x).is thens))
 
 -- ---- for whatever the statement is
-module _ (text code values : List ℕ) (k : Setting) (used i : ℕ) (one : List ℕ) (j : Judged) (c : OfType code values one false bool_type (i + 1) j) where
-  pub if-wrong : (number word : ℕ) → j ≡ judged.Faulty number word → Begun IF text code values one values k used i (Faulty number word)
-  if-wrong number word q = record { is = λ g. wrong text code values k used i g one j c number word q }
+module _ (text code values : List ℕ) (k : Setting) (used i : ℕ) (one : List ℕ) (j : Judged) (c : OfType code values one false Bool (i + 1) j) where
+  pub if-wrong : (broken : Breach) → j ≡ Err broken → Begun IF text code values one values k used i (Err broken)
+  if-wrong broken q = record { is = λ g. wrong text code values k used i g one j c broken q }
 
-  module _ (bool : ℕ) (t : ℕ) (q : j ≡ judged.Typed bool t) (v : ℕ) (ev : v ≡ op_at (cells_of one) t) where
+  module _ (type : ValueType) (t : ℕ) (q : j ≡ Ok (type, t)) (v : ℕ) (ev : v ≡ op_at (cells_of one) t) where
     pub if-compact : (v ≡ THEN → ⊥) → (two : List ℕ) (r : Walked) → Compacted text one values two k used i t r → Begun IF text code values two values k used i r
-    if-compact n two r x = record { is = λ g. compact-is text code values k used i g one j c bool t q v ev n two r x }
+    if-compact n two r x = record { is = λ g. compact-is text code values k used i g one j c type t q v ev n two r x }
 
     pub if-full : v ≡ THEN → (two values' : List ℕ) (r : Walked) → Thened text one values two values' k used i t r → Begun IF text code values two values' k used i r
-    if-full h two values' r x = record { is = λ g. full_is text code values k used i g one j c bool t q v ev h two values' r x }
+    if-full h two values' r x = record { is = λ g. full_is text code values k used i g one j c type t q v ev h two values' r x }

@@ -25,60 +25,51 @@ use Rattle.check_links.proofs.Framing.{statement-frame}
 use Rattle.check_around.specs.declared.Setting.{Setting}
 use Rattle.check_around.specs.Around.{ground_of}
 use Rattle.check_names.specs.declared.Scope.{Scope}
-use Rattle.check_names.specs.Scopes.{with_used, Stays}
-use Rattle.check_names.specs.declared.Walked.{Walked}
-use Rattle.check_names.specs.declared.Walked.TheVariants.{Upto, Faulty}
+use Rattle.check_names.specs.Scopes.{with_used, Walked}
 use Rattle.check_statements.specs.Answers.{SameValues, Stands, Lists, Done, Tell, Answer, StatementAnswer, Stated, Listed}
 use Rattle.check_compounds.specs.Here.{Outside, Here}
 use Rattle.check_statements.proofs.Same.{same-values, stands-as, answer-as}
 use Rattle.check_compounds.proofs.Frames.{outside-same, outside_wider, outside-on, same-before, here_on, here-part}
+use Rattle.std.specs.Prelude.{Ok, Err}
+use Rattle.layout.specs.Broken.{as_fault}
+use Rattle.layout.specs.declared.rules.Breach.{Breach}
 
 -- an answer with so many words used is the answer with the scope that has used them
-pub as-scope : (P : Walked → Type 0) (x : ℕ) {used : ℕ} (scope : Scope) → scope.used ≡ used → P (Upto x (with_used used scope)) → P (Upto x scope)
-as-scope P x scope e p = subst (λ (n : ℕ). P (Upto x (with_used n scope))) (sym e) p
-
--- a walk that breaks off hands no scope back
-pub stays-wrong : (s : Scope) (w : Walked) (number word : ℕ) → w ≡ Faulty number word → Stays s w
-stays-wrong s w number word e = subst (Stays s) (sym e) tt
+pub as-scope : (P : Walked → Type 0) (x : ℕ) {used : ℕ} (scope : Scope) → scope.used ≡ used → P (Ok (x, with_used used scope)) → P (Ok (x, scope))
+as-scope P x scope e p = subst (λ (n : ℕ). P (Ok (x, with_used n scope))) (sym e) p
 
 -- ---- answers
 module _ {fs : List Fault} {before after values values' : List ℕ} {at to count : ℕ} {holds : Type 0} (r : Walked) (a : Answer fs before after values values' at to count holds r) where
-  pub upto_done : (next : ℕ) (u : Scope) → r ≡ Upto next u → Done fs before after values values' at to count next u.used holds
+  pub upto_done : (next : ℕ) (u : Scope) → r ≡ Ok (next, u) → Done fs before after values values' at to count next u.used holds
   unfolding Tell
   upto_done next u e = subst (Tell fs before after values values' at to count holds) e a.tells
 
-  pub faulty-first : (number word : ℕ) → r ≡ Faulty number word → First (record { number = number; at = word }) fs
+  pub faulty-first : (broken : Breach) → r ≡ Err broken → First (as_fault broken) fs
   unfolding Tell
-  faulty-first number word e = subst (Tell fs before after values values' at to count holds) e a.tells
+  faulty-first broken e = subst (Tell fs before after values values' at to count holds) e a.tells
 
 pub done-answer : (fs : List Fault) (before after values values' : List ℕ) (at to count next : ℕ) (u : Scope) (holds : Type 0) → Done fs before after values values' at to count next u.used holds → length after ≡ length before
-    → Answer fs before after values values' at to count holds (Upto next u)
+    → Answer fs before after values values' at to count holds (Ok (next, u))
 unfolding Tell
 done-answer fs before after values values' at to count next u holds d long = record { tells = d; long = long }
 
-pub first-answer : (fs : List Fault) (before after values values' : List ℕ) (at to count number word : ℕ) (holds : Type 0) → First (record { number = number; at = word }) fs → length after ≡ length before
-    → Answer fs before after values values' at to count holds (Faulty number word)
+pub first-answer : (fs : List Fault) (before after values values' : List ℕ) (at to count : ℕ) (broken : Breach) (holds : Type 0) → First (as_fault broken) fs → length after ≡ length before
+    → Answer fs before after values values' at to count holds (Err broken)
 unfolding Tell
-first-answer fs before after values values' at to count number word holds d long = record { tells = d; long = long }
-
--- the same answer for other faults: those of a piece that comes first
-pub faulty-answer : (fs : List Fault) (before after values values' : List ℕ) (at to count : ℕ) (holds : Type 0) (r : Walked) (number word : ℕ) → r ≡ Faulty number word
-    → First (record { number = number; at = word }) fs → length after ≡ length before → Answer fs before after values values' at to count holds r
-faulty-answer fs before after values values' at to count holds r number word e f long =
-    subst (Answer fs before after values values' at to count holds) (sym e) (first-answer fs before after values values' at to count number word holds f long)
+first-answer fs before after values values' at to count broken holds d long = record { tells = d; long = long }
 
 -- what is answered of a piece, where words before it have been written without a fault
 pub answer-behind : (fs gs : List Fault) (code one two values values' : List ℕ) (at to count total : ℕ) (holds : Type 0) (r : Walked) → gs ≡ fs → count ≡ total → Outside (cells_of code) (cells_of one) at to → length one ≡ length code
     → Answer fs one two values values' at to count holds r → Answer gs code two values values' at to total holds r
 unfolding Tell
-answer-behind fs gs code one two values values' at to count total holds (Upto next u) e c o long x =
+answer-behind fs gs code one two values values' at to count total holds (Ok (next, u)) e c o long x =
     let d = x.tells in
     record {
       tells = record { none = e ∙ d.none; next-is = d.next-is; used-is = d.used-is ∙ c; few = d.few; written = d.written; outside = outside-on o d.outside; same = d.same };
       long = x.long ∙ long;
     }
-answer-behind fs gs code one two values values' at to count total holds (Faulty number word) e c o long x =
-    record { tells = subst (First (record { number = number; at = word })) (sym e) x.tells; long = x.long ∙ long }
+answer-behind fs gs code one two values values' at to count total holds (Err broken) e c o long x =
+    record { tells = subst (First (as_fault broken)) (sym e) x.tells; long = x.long ∙ long }
 
 -- ---- what is left of a list
 pub record Going {text code values : List ℕ} {k : Setting} {used at : ℕ} (g : Lists text code values k used at) (now values' : List ℕ) (i n : ℕ) : Type 0 where
@@ -144,7 +135,7 @@ module _ (text code values : List ℕ) (k : Setting) (used at : ℕ) (now values
 
     -- ---- the list has ended
     ends-here : (g : Lists text code values k used at) → b ≡ false → (scope : Scope) → Answer (list_faults g.around.known.W g.around.K g.around.M g.l g.around.known.S used) code now values values' at g.to (used + fors_in_list g.l)
-        (RawList (ground_of g.around) g.around.known.n (cells_of now) g.l g.around.known.S used at g.to) (Upto i (with_used n scope))
+        (RawList (ground_of g.around) g.around.known.n (cells_of now) g.l g.around.known.S used at g.to) (Ok (i, with_used n scope))
     unfolding list_faults fors_in_list RawList
     ends-here g f scope =
         let x = inv.is g in
@@ -163,7 +154,7 @@ module _ (text code values : List ℕ) (k : Setting) (used at : ℕ) (now values
         })
         x.long
 
-    pub list-ends : b ≡ false → (scope : Scope) → scope.used ≡ n → Listed text code values now values' k used at (Upto i scope)
+    pub list-ends : b ≡ false → (scope : Scope) → scope.used ≡ n → Listed text code values now values' k used at (Ok (i, scope))
     list-ends f scope u = as-scope (Listed text code values now values' k used at) i scope u (record { is = λ g. ends-here g f scope })
 
     -- ---- a statement follows
@@ -216,17 +207,17 @@ module _ (text code values : List ℕ) (k : Setting) (used at : ℕ) (now values
         unfolding ground_of
         answer = answer-as x.same _ _ _ _ _ _ _ _ r (st.is (stands-as x.same one))
 
-        faulty-is : (number word : ℕ) → r ≡ Faulty number word → Answer (list_faults g.around.known.W g.around.K g.around.M g.l g.around.known.S used) code after values values'' at g.to (used + fors_in_list g.l)
-            (RawList (ground_of g.around) g.around.known.n (cells_of after) g.l g.around.known.S used at g.to) r
+        faulty-is : (broken : Breach) → r ≡ Err broken → Answer (list_faults g.around.known.W g.around.K g.around.M g.l g.around.known.S used) code after values values'' at g.to (used + fors_in_list g.l)
+            (RawList (ground_of g.around) g.around.known.n (cells_of after) g.l g.around.known.S used at g.to) (Err broken)
         unfolding one first-faults other-faults
-        faulty-is number word e =
-            faulty-answer _ _ _ _ _ _ _ _ _ r number word e
-            (subst (First (record { number = number; at = word })) (sym all-faults)
-            (first-before (faulty-first r answer number word e) (statement-inside g.around.known.W g.around.K g.around.M f.stands g.around.known.S n)
+        faulty-is broken e =
+            first-answer _ _ _ _ _ _ _ _ broken _
+            (subst (First (as_fault broken)) (sym all-faults)
+            (first-before (faulty-first r answer broken e) (statement-inside g.around.known.W g.around.K g.around.M f.stands g.around.known.S n)
             (list_inside g.around.known.W g.around.K g.around.M f.more g.around.known.S (n + fors_in f.s)) (omega arith)))
             (answer.long ∙ x.long)
 
-        module _ (m : ℕ) (u : Scope) (e : r ≡ Upto m u) where
+        module _ (m : ℕ) (u : Scope) (e : r ≡ Ok (m, u)) where
           done : Done first-faults now after values values'' i f.n (n + fors_in f.s) m u.used (RawStatement (ground_of g.around) g.around.known.n (cells_of after) f.s g.around.known.S n i f.n)
           unfolding one first-faults
           done = upto_done r answer m u e
@@ -262,11 +253,11 @@ module _ (text code values : List ℕ) (k : Setting) (used at : ℕ) (now values
           goes-on = subst (λ (v : ℕ). Going g after values'' m v) (sym done.used-is) (subst (λ (v : ℕ). Going g after values'' v (n + fors_in f.s)) (sym done.next-is) goes)
 
     module _ (t : b ≡ true) (after values'' : List ℕ) (r : Walked) (st : Stated text now values' after values'' k n i r) where
-      pub list-faulty : (number word : ℕ) → r ≡ Faulty number word → Listed text code values after values'' k used at r
-      list-faulty number word e = record { is = λ g. faulty-is t g after values'' r st number word e }
+      pub list-faulty : (broken : Breach) → r ≡ Err broken → Listed text code values after values'' k used at (Err broken)
+      list-faulty broken e = record { is = λ g. faulty-is t g after values'' r st broken e }
 
-      pub list-less : Lists text code values k used at → (m : ℕ) (scope : Scope) → r ≡ Upto m scope → word_limit - m < word_limit - i
+      pub list-less : Lists text code values k used at → (m : ℕ) (scope : Scope) → r ≡ Ok (m, scope) → word_limit - m < word_limit - i
       list-less g m scope e = less t g after values'' r st m scope e
 
-      pub list-goes : (m : ℕ) (u : Scope) → r ≡ Upto m u → Goings text code values k used at after values'' m u.used
+      pub list-goes : (m : ℕ) (u : Scope) → r ≡ Ok (m, u) → Goings text code values k used at after values'' m u.used
       list-goes m u e = record { is = λ g. goes-on t g after values'' r st m u e }

@@ -8,18 +8,19 @@ use lib.ListN.{get_or}
 use Rattle.paper.specs.Names.{meaning}
 use Rattle.paper.specs.Types.{Fault}
 use Rattle.check_names.specs.Meanings.{Means}
-use Rattle.check_expressions.specs.declared.Judged.{Judged}
 use Rattle.check_expressions.specs.Known.{Known}
 use Rattle.check_expressions.specs.Answers.{OfType}
 use Rattle.check_expressions.specs.Answers as expressions
 use Rattle.check_constants.specs.Answers.{Fine}
 use Rattle.check_around.specs.declared.Setting.{Setting}
 use Rattle.check_around.specs.Around.{Around}
-use Rattle.check_names.specs.declared.Walked.{Walked}
-use Rattle.check_names.specs.declared.Walked.TheVariants.{Upto, Faulty}
 use Rattle.check_statements.specs.Answers.{SameValues, Stands, Lists, Tell, Answer}
 use Rattle.check_compounds.specs.Here.{Here}
 use Rattle.check_statements.specs.Parts.{Elses}
+use Rattle.check_names.specs.Scopes.{Walked}
+use Rattle.layout.specs.declared.types.ValueType.{ValueType}
+use Rattle.check_expressions.specs.Judgements.{Judged}
+use Rattle.std.specs.Prelude.{Ok, Err}
 
 pub same-values : (values : List ℕ) → SameValues values values
 same-values values = record { words = refl; long = refl }
@@ -81,12 +82,12 @@ module _ {values values' : List ℕ} (s : SameValues values values') where
   abbrev pub expression-as : {code : List ℕ} {top at : ℕ} → expressions.Stands code values top at → expressions.Stands code values' top at
   expression-as g = record { known = known-as g.known; d = g.d; e = g.e; to = g.to; tops = g.tops; deep = g.deep; is = g.is; ends = g.ends; loaded = g.loaded }
 
-  pub of-type-as : {code after : List ℕ} {only : Bool} {wants at : ℕ} {r : Judged} → OfType code values' after only wants at r → OfType code values after only wants at r
+  pub of-type-as : {code after : List ℕ} {only : Bool} {wants : ValueType} {at : ℕ} {r : Judged} → OfType code values' after only wants at r → OfType code values after only wants at r
   of-type-as x = record { is = λ g t w. x.is (expression-as g) t w }
 
   pub answer-as : (fs : List Fault) (before after values'' : List ℕ) (at to count : ℕ) (holds : Type 0) (r : Walked) → Answer fs before after values' values'' at to count holds r → Answer fs before after values values'' at to count holds r
   unfolding Tell
-  answer-as fs before after values'' at to count holds (Upto next u) x =
+  answer-as fs before after values'' at to count holds (Ok (next, u)) x =
       let d = x.tells in
       record { tells = record { none = d.none; next-is = d.next-is; used-is = d.used-is; few = d.few; written = d.written; outside = d.outside; same = same_then s d.same }; long = x.long }
-  answer-as fs before after values'' at to count holds (Faulty number word) x = record { tells = x.tells; long = x.long }
+  answer-as fs before after values'' at to count holds (Err broken) x = record { tells = x.tells; long = x.long }

@@ -1,9 +1,8 @@
 -- TEST: its cases one by one.
 use Rattle.paper.specs.Words.{word_limit}
 use mathlib.Core.Path.{◌≡◌, refl, sym, ap, subst, ◌∙◌}
-use mathlib.Core.Bool.{Bool}
 use mathlib.Core.List.{List, [], ◌++◌}
-use Prim.Native.Nat.{ℕ, ◌+◌, ◌-◌, ◌*◌, ◌<◌, ◌≤◌}
+use Prim.Native.Nat.{ℕ, ◌+◌, ◌*◌, ◌<◌, ◌≤◌}
 use native.Mathlib.Omega.{arith}
 use lib.ListN.{length}
 use Rattle.store_cells.specs.Cells.{cells_of}
@@ -16,8 +15,6 @@ use Rattle.code.specs.Cells.{op_at}
 use Rattle.grammar.specs.Form.{Parses, CasesAt, DefaultAt}
 use Rattle.grammar.proofs.Inversions.{FirstCase, cases-first, cases_none}
 use Rattle.grammar.proofs.Places.{exprs-grow, list-grows, cases-grow, default-grows}
-use Rattle.check_expressions.specs.declared.Judged.{Judged}
-use Rattle.check_expressions.specs.declared.Judged.TheVariants as judged
 use Rattle.store_writing.specs.Promises.{Linked}
 use Rattle.faults.specs.First.{First, Inside}
 use Rattle.faults.proofs.First.{first-before, first-after, nothing-in-both}
@@ -28,8 +25,6 @@ use Rattle.check_around.specs.declared.Setting.{Setting}
 use Rattle.check_around.specs.Around.{Around, ground_of}
 use Rattle.check_around.specs.Answers as answered
 use Rattle.check_names.specs.declared.Scope.{Scope}
-use Rattle.check_names.specs.declared.Walked.{Walked}
-use Rattle.check_names.specs.declared.Walked.TheVariants.{Upto, Faulty}
 use Rattle.check_statements.specs.Answers.{SameValues, Lists, Done, Tell, Answer, Listed}
 use Rattle.check_compounds.specs.Here.{Outside, Here}
 use Rattle.check_compounds.specs.Parts.{CaseChain, CaseValues, CaseValued, Chained, ValuesLinked}
@@ -37,10 +32,15 @@ use Rattle.check_statements.specs.Parts.{Defaults, Defaulted, Chooses, CasesWrit
 use Rattle.check_statements.proofs.Same.{same-values, around-as, here-as, lists-as, answer-as}
 use Rattle.check_compounds.proofs.Frames.{outside-same, outside_wider, outside-on, kept-outside, same-before, same-behind, same-on, here_on, list_same, op_same, place_same, word_same, linked-outside, linked-word}
 use Rattle.check_compounds.proofs.ExpressionsJudged.{inside_both}
-use Rattle.check_statements.proofs.ListWalk.{upto_done, faulty-first, done-answer, first-answer, faulty-answer}
+use Rattle.check_statements.proofs.ListWalk.{upto_done, faulty-first, done-answer, first-answer}
 use Rattle.check_compounds.proofs.AnswerShapes.{typed-fine, faulty-found}
 use Rattle.check_compounds.proofs.CaseValuesStay.{case-chain-same, case-chain-op, constants-same}
 use Rattle.code.specs.Steps.{a_pass}
+use Rattle.check_names.specs.Scopes.{Walked}
+use Rattle.check_around.specs.Answers.{Stepped}
+use Rattle.std.specs.Prelude.{Ok, Err}
+use Rattle.layout.specs.Broken.{as_fault}
+use Rattle.layout.specs.declared.rules.Breach.{Breach}
 
 -- ---- what is left of the cases
 pub record Casing {text code values : List ℕ} {k : Setting} {used first : ℕ} (g : Chooses text code values k used first) (now values' : List ℕ) (c n : ℕ) : Type 0 where
@@ -158,7 +158,7 @@ module _ (text code values : List ℕ) (k : Setting) (used first : ℕ) (now val
           where
             by_answer : (q : Walked) → Answer (list_faults a.known.W a.K a.M g.o a.known.S n) now after values values'' c g.to (n + fors_in_list g.o)
                 (RawDefault (ground_of a) a.known.n (cells_of after) (λ (x2 y2 : ℕ). RawList (ground_of a) a.known.n (cells_of after) g.o a.known.S n x2 y2) c g.to) q → ForCases after values'' q
-            by_answer (Upto next u) y =
+            by_answer (Ok (next, u)) y =
                 let d = y.tells in
                 done-answer _ _ _ _ _ _ _ _ _ _ _
                 (record {
@@ -176,9 +176,9 @@ module _ (text code values : List ℕ) (k : Setting) (used first : ℕ) (now val
                   same = d.same;
                 })
                 (y.long ∙ x.long)
-            by_answer (Faulty number word) y =
-                first-answer _ _ _ _ _ _ _ _ number word _
-                (first-after no_cases (subst (λ (v : ℕ). First (record { number = number; at = word }) (list_faults a.known.W a.K a.M g.o a.known.S v)) counted y.tells)) (y.long ∙ x.long)
+            by_answer (Err broken) y =
+                first-answer _ _ _ _ _ _ _ _ broken _
+                (first-after no_cases (subst (λ (v : ℕ). First (as_fault broken) (list_faults a.known.W a.K a.M g.o a.known.S v)) counted y.tells)) (y.long ∙ x.long)
 
       -- ---- a CASE
       module _ (h : s ≡ CASE) where
@@ -244,20 +244,20 @@ module _ (text code values : List ℕ) (k : Setting) (used first : ℕ) (now val
             let j2 = inside_both j1 rest_in (omega (arith, orders)) (omega (arith, orders)) in
             first-before (first-before q j1 rest_in (omega arith)) j2 else-in (omega arith)
 
-        module _ (one : List ℕ) (j : Judged) (cv : CaseValued now values' one c j) where
+        module _ (one : List ℕ) (j : Stepped) (cv : CaseValued now values' one c j) where
           va : answered.Answer value-faults now one c f.n (CaseChain a.known.W a.known.S a.M (cells_of one) f.cs f.n c) j
           unfolding values-at value-faults
           va = cv.is values-at
 
-          values-wrong : (number word : ℕ) → j ≡ judged.Faulty number word → ForCases one values' (Faulty number word)
+          values-wrong : (broken : Breach) → j ≡ Err broken → ForCases one values' (Err broken)
           unfolding else-faults
-          values-wrong number word q =
-              first-answer _ _ _ _ _ _ _ _ number word _
-              (subst (First (record { number = number; at = word })) (sym whole) (behind-list _ (first-before (faulty-found j va number word q) value-in list-in (omega arith)))) (va.long ∙ x.long)
+          values-wrong broken q =
+              first-answer _ _ _ _ _ _ _ _ broken _
+              (subst (First (as_fault broken)) (sym whole) (behind-list _ (first-before (faulty-found j va broken q) value-in list-in (omega arith)))) (va.long ∙ x.long)
 
-          module _ (bool : ℕ) (colon : ℕ) (q : j ≡ judged.Typed bool colon) where
+          module _ (colon : ℕ) (q : j ≡ Ok colon) where
             v : answered.Fine value-faults now one c f.n colon (CaseChain a.known.W a.known.S a.M (cells_of one) f.cs f.n c)
-            v = typed-fine j va bool colon q
+            v = typed-fine j va colon q
 
             lists : Lists text one values k n (f.n + 1)
             unfolding fors_in_cases
@@ -282,12 +282,12 @@ module _ (text code values : List ℕ) (k : Setting) (used first : ℕ) (now val
               unfolding lists ground_of list-faults
               inner = answer-as x.same _ _ _ _ _ _ _ _ r ((subst (λ (w : ℕ). Listed text one values' two values'' k n (w + 1) r) v.next-is l).is (lists-as x.same lists))
 
-              list-wrong : (number word : ℕ) → r ≡ Faulty number word → ForCases two values'' r
+              list-wrong : (broken : Breach) → r ≡ Err broken → ForCases two values'' (Err broken)
               unfolding else-faults
-              list-wrong number word e =
-                  faulty-answer _ _ _ _ _ _ _ _ _ r number word e (subst (First (record { number = number; at = word })) (sym whole) (behind-list _ (first-after v.none (faulty-first r inner number word e)))) (inner.long ∙ va.long ∙ x.long)
+              list-wrong broken e =
+                  first-answer _ _ _ _ _ _ _ _ broken _ (subst (First (as_fault broken)) (sym whole) (behind-list _ (first-after v.none (faulty-first r inner broken e)))) (inner.long ∙ va.long ∙ x.long)
 
-              module _ (e : ℕ) (u : Scope) (q2 : r ≡ Upto e u) where
+              module _ (e : ℕ) (u : Scope) (q2 : r ≡ Ok (e, u)) where
                 done : Done list-faults one two values values'' (f.n + 1) f.m (n + fors_in_list f.b) e u.used (RawList (ground_of a) a.known.n (cells_of two) f.b a.known.S n (f.n + 1) f.m)
                 done = upto_done r inner e u q2
 
@@ -380,13 +380,13 @@ module _ (text code values : List ℕ) (k : Setting) (used first : ℕ) (now val
     pub cases-finished : (s ≡ CASE → ⊥) → (after values'' : List ℕ) (r : Walked) → Defaulted text now values' after values'' k n c r → Chosen text code values after values'' k used first r
     cases-finished f after values'' r dd = record { is = λ g. finished g s es f after values'' r dd }
 
-    module _ (h : s ≡ CASE) (one : List ℕ) (j : Judged) (cv : CaseValued now values' one c j) where
-      pub case-wrong : (number word : ℕ) → j ≡ judged.Faulty number word → Chosen text code values one values' k used first (Faulty number word)
-      case-wrong number word q = record { is = λ g. values-wrong g s es h one j cv number word q }
+    module _ (h : s ≡ CASE) (one : List ℕ) (j : Stepped) (cv : CaseValued now values' one c j) where
+      pub case-wrong : (broken : Breach) → j ≡ Err broken → Chosen text code values one values' k used first (Err broken)
+      case-wrong broken q = record { is = λ g. values-wrong g s es h one j cv broken q }
 
-      module _ (bool : ℕ) (colon : ℕ) (q : j ≡ judged.Typed bool colon) (two values'' : List ℕ) (r : Walked) (l : Listed text one values' two values'' k n (colon + 1) r) where
-        pub case-list-wrong : (number word : ℕ) → r ≡ Faulty number word → Chosen text code values two values'' k used first r
-        case-list-wrong number word e = record { is = λ g. list-wrong g s es h one j cv bool colon q two values'' r l number word e }
+      module _ (colon : ℕ) (q : j ≡ Ok colon) (two values'' : List ℕ) (r : Walked) (l : Listed text one values' two values'' k n (colon + 1) r) where
+        pub case-list-wrong : (broken : Breach) → r ≡ Err broken → Chosen text code values two values'' k used first (Err broken)
+        case-list-wrong broken e = record { is = λ g. list-wrong g s es h one j cv colon q two values'' r l broken e }
 
-        pub cases-go : (e : ℕ) (u : Scope) → r ≡ Upto e u → (three : List ℕ) → Linked two three (c + 1) a_pass 0 e → (four : List ℕ) → ValuesLinked three four colon e c → Casings text code values k used first four values'' e u.used
-        cases-go e u q2 three lk four vl = record { is = λ g. goes-on g s es h one j cv bool colon q two values'' r l e u q2 three lk four vl }
+        pub cases-go : (e : ℕ) (u : Scope) → r ≡ Ok (e, u) → (three : List ℕ) → Linked two three (c + 1) a_pass 0 e → (four : List ℕ) → ValuesLinked three four colon e c → Casings text code values k used first four values'' e u.used
+        cases-go e u q2 three lk four vl = record { is = λ g. goes-on g s es h one j cv colon q two values'' r l e u q2 three lk four vl }

@@ -2,7 +2,7 @@
 use Rattle.paper.specs.Words.{word_limit}
 use Rattle.layout.specs.Parts.{link_part}
 use mathlib.Core.Path.{◌≡◌, refl, sym, ap, subst, ◌∙◌}
-use mathlib.Core.Bool.{Bool, false}
+use mathlib.Core.Bool.{false}
 use mathlib.Core.List.{List, [], ◌++◌}
 use Prim.Native.Nat.{ℕ, ◌+◌, ◌-◌, ◌*◌, ◌%◌, ◌<◌, ◌≤◌}
 use native.Mathlib.Omega.{arith}
@@ -18,8 +18,6 @@ use Rattle.paper.specs.Checks.{fors_in, fors_in_list, fors_in_cases, statement_f
 use Rattle.grammar.specs.Form.{Parses}
 use Rattle.grammar.proofs.Inversions.{cases_none, default_none, IsTest, statement-test}
 use Rattle.grammar.proofs.Places.{cases-grow, default-grows}
-use Rattle.check_expressions.specs.declared.Judged.{Judged}
-use Rattle.check_expressions.specs.declared.Judged.TheVariants as judged
 use Rattle.store_writing.specs.Promises.{Kept, Linked}
 use Rattle.store_writing.proofs.Keeping.{place-below}
 use Rattle.check_expressions.specs.Answers.{OfType}
@@ -34,18 +32,21 @@ use Rattle.check_links.proofs.Orders.{ends-order, list-order, cases_order}
 use Rattle.check_around.specs.declared.Setting.{Setting}
 use Rattle.check_around.specs.Around.{Around, ground_of, offset_in}
 use Rattle.check_names.specs.declared.Scope.{Scope}
-use Rattle.check_names.specs.declared.Walked.{Walked}
-use Rattle.check_names.specs.declared.Walked.TheVariants.{Upto, Faulty}
 use Rattle.check_statements.specs.Answers.{Stands, Done, Answer, StatementAnswer, Begins, Begun}
 use Rattle.check_compounds.specs.Here.{Outside}
 use Rattle.check_statements.specs.Parts.{Chooses, CasesWritten, Chosen}
 use Rattle.check_compounds.proofs.Frames.{outside_wider, outside-on, kept-outside, same-before, same-behind, same-on, here_on, term-same, list_same, place_same, word_same, linked-outside, linked-word}
 use Rattle.check_compounds.proofs.ExpressionsJudged.{inside_both, expression-stands, judged-faulty, judged-long, judged-none, judged-next, judged-term, judged-kept}
-use Rattle.check_statements.proofs.ListWalk.{upto_done, faulty-first, done-answer, first-answer, faulty-answer}
+use Rattle.check_statements.proofs.ListWalk.{upto_done, faulty-first, done-answer, first-answer}
 use Rattle.check_compounds.proofs.Frames.{tail-before}
 use Rattle.code.specs.Steps.{a_test}
-use Rattle.layout.specs.Types.{num_type}
-use Rattle.layout.proofs.Typing.{num-in}
+use Rattle.layout.specs.declared.types.ValueType.{ValueType}
+use Rattle.layout.specs.declared.types.ValueType.TheVariants.{Num}
+use Rattle.check_names.specs.Scopes.{Walked}
+use Rattle.check_expressions.specs.Judgements.{Judged}
+use Rattle.std.specs.Prelude.{Ok, Err}
+use Rattle.layout.specs.Broken.{as_fault}
+use Rattle.layout.specs.declared.rules.Breach.{Breach}
 
 module _ (text code values : List ℕ) (k : Setting) (used i : ℕ) (g : Begins TEST text code values k used i) where
   abbrev s : Stands text code values k used i
@@ -80,31 +81,31 @@ module _ (text code values : List ℕ) (k : Setting) (used i : ℕ) (g : Begins 
   ForStatement after values' r t =
       Answer (statement_faults a.known.W a.K a.M t a.known.S used) code after values values' i s.to (used + fors_in t) (RawStatement (ground_of a) a.known.n (cells_of after) t a.known.S used i s.to) r
 
-  module _ (one : List ℕ) (j : Judged) (c : OfType code values one false num_type (i + 1) j) where
-    wrong : (number word : ℕ) → j ≡ judged.Faulty number word → StatementAnswer g.stands one values (Faulty number word)
+  module _ (one : List ℕ) (j : Judged) (c : OfType code values one false Num (i + 1) j) where
+    wrong : (broken : Breach) → j ≡ Err broken → StatementAnswer g.stands one values (Err broken)
     unfolding statement_faults fors_in
-    wrong number word q =
-        let c2 = judged-faulty text code values a k used i s.to s.here w.e (i + 1) w.n w.selector no-operator (omega arith) (omega (arith, orders, last)) one num_type a_num num-in j c number word q in
+    wrong broken q =
+        let c2 = judged-faulty text code values a k used i s.to s.here w.e (i + 1) w.n w.selector no-operator (omega arith) (omega (arith, orders, last)) one Num a_num refl j c broken q in
         let i1 = of-type-inside a.known.W _ _ _ _ w.selector a_num a.known.S in
         let i2 = cases-inside a.known.W a.K a.M w.cases a.known.S used in
         let i3 = default-inside a.known.W a.K a.M w.otherwise a.known.S (used + fors_in_cases w.c) in
         let f1 = first-before c2 i1 i2 (omega arith) in
         let f2 = first-before f1 (inside_both i1 i2 (omega (arith, orders)) (omega (arith, orders))) i3 (omega arith) in
-        subst (ForStatement one values (Faulty number word)) (sym w.is)
-        (first-answer _ _ _ _ _ _ _ _ number word _ f2 (judged-long text code values a k used i s.to s.here w.e (i + 1) w.n w.selector no-operator (omega arith) (omega (arith, orders, last)) one num_type a_num num-in j c))
+        subst (ForStatement one values (Err broken)) (sym w.is)
+        (first-answer _ _ _ _ _ _ _ _ broken _ f2 (judged-long text code values a k used i s.to s.here w.e (i + 1) w.n w.selector no-operator (omega arith) (omega (arith, orders, last)) one Num a_num refl j c))
 
-    module _ (bool : ℕ) (t : ℕ) (q : j ≡ judged.Typed bool t) where
+    module _ (type : ValueType) (t : ℕ) (q : j ≡ Ok (type, t)) where
       at-is : t ≡ w.n
-      at-is = judged-next text code values a k used i s.to s.here w.e (i + 1) w.n w.selector no-operator (omega arith) (omega (arith, orders, last)) one num_type a_num num-in j c bool t q
+      at-is = judged-next text code values a k used i s.to s.here w.e (i + 1) w.n w.selector no-operator (omega arith) (omega (arith, orders, last)) one Num a_num refl j c type t q
 
       fine : of_type a.known.W a_num a.known.S w.e ≡ []
-      fine = judged-none text code values a k used i s.to s.here w.e (i + 1) w.n w.selector no-operator (omega arith) (omega (arith, orders, last)) one num_type a_num num-in j c bool t q
+      fine = judged-none text code values a k used i s.to s.here w.e (i + 1) w.n w.selector no-operator (omega arith) (omega (arith, orders, last)) one Num a_num refl j c type t q
 
       term : RawTerm (ground_of a) a.known.n (cells_of one) a.known.S w.e (i + 1) w.n
-      term = judged-term text code values a k used i s.to s.here w.e (i + 1) w.n w.selector no-operator (omega arith) (omega (arith, orders, last)) one num_type a_num num-in j c bool t q
+      term = judged-term text code values a k used i s.to s.here w.e (i + 1) w.n w.selector no-operator (omega arith) (omega (arith, orders, last)) one Num a_num refl j c type t q
 
       kept : Kept code one (i + 1) w.n
-      kept = judged-kept text code values a k used i s.to s.here w.e (i + 1) w.n w.selector no-operator (omega arith) (omega (arith, orders, last)) one num_type a_num num-in j c bool t q
+      kept = judged-kept text code values a k used i s.to s.here w.e (i + 1) w.n w.selector no-operator (omega arith) (omega (arith, orders, last)) one Num a_num refl j c type t q
 
       chooses : Chooses text one values k used w.n
       unfolding fors_in
@@ -143,13 +144,13 @@ module _ (text code values : List ℕ) (k : Setting) (used i : ℕ) (g : Begins 
             ≡ cases_faults a.known.W a.K a.M w.c a.known.S used ++ list_faults a.known.W a.K a.M w.default a.known.S (used + fors_in_cases w.c)
         together = ap (λ (l : List Fault). l ++ cases_faults a.known.W a.K a.M w.c a.known.S used ++ list_faults a.known.W a.K a.M w.default a.known.S (used + fors_in_cases w.c)) fine
 
-        cases-wrong : (number word : ℕ) → r ≡ Faulty number word → StatementAnswer g.stands two values' r
+        cases-wrong : (broken : Breach) → r ≡ Err broken → StatementAnswer g.stands two values' (Err broken)
         unfolding statement_faults fors_in
-        cases-wrong number word e =
-            subst (ForStatement two values' r) (sym w.is)
-            (faulty-answer _ _ _ _ _ _ _ _ _ r number word e (subst (First (record { number = number; at = word })) (sym together) (faulty-first r inner number word e)) (inner.long ∙ kept.long))
+        cases-wrong broken e =
+            subst (ForStatement two values' (Err broken)) (sym w.is)
+            (first-answer _ _ _ _ _ _ _ _ broken _ (subst (First (as_fault broken)) (sym together) (faulty-first r inner broken e)) (inner.long ∙ kept.long))
 
-        module _ (z : ℕ) (n : Scope) (q2 : r ≡ Upto z n) where
+        module _ (z : ℕ) (n : Scope) (q2 : r ≡ Ok (z, n)) where
           done : Done (cases_faults a.known.W a.K a.M w.c a.known.S used ++ list_faults a.known.W a.K a.M w.default a.known.S (used + fors_in_cases w.c))
               one two values values' w.n s.to (used + (fors_in_cases w.c + fors_in_list w.default)) z n.used
               (CasesWritten
@@ -205,10 +206,10 @@ module _ (text code values : List ℕ) (k : Setting) (used i : ℕ) (g : Begins 
                 ends_same (at_once e) s3 = at_once e
                 ends_same {z3} (closed w3 e) s3 = closed (word_same s3 z3 (omega arith) (omega arith) _ s.to w3) e
 
-            finished : StatementAnswer g.stands three values' (Upto z n)
+            finished : StatementAnswer g.stands three values' (Ok (z, n))
             unfolding statement_faults fors_in RawStatement
             finished =
-                subst (ForStatement three values' (Upto z n)) (sym w.is)
+                subst (ForStatement three values' (Ok (z, n))) (sym w.is)
                 (done-answer _ _ _ _ _ _ _ _ _ _ _
                 (record {
                   none = together ∙ done.none;
@@ -223,13 +224,13 @@ module _ (text code values : List ℕ) (k : Setting) (used i : ℕ) (g : Begins 
                 (l.kept.long ∙ inner.long ∙ kept.long))
 
 -- ---- for whatever the statement is
-module _ (text code values : List ℕ) (k : Setting) (used i : ℕ) (one : List ℕ) (j : Judged) (c : OfType code values one false num_type (i + 1) j) where
-  pub test-wrong : (number word : ℕ) → j ≡ judged.Faulty number word → Begun TEST text code values one values k used i (Faulty number word)
-  test-wrong number word q = record { is = λ g. wrong text code values k used i g one j c number word q }
+module _ (text code values : List ℕ) (k : Setting) (used i : ℕ) (one : List ℕ) (j : Judged) (c : OfType code values one false Num (i + 1) j) where
+  pub test-wrong : (broken : Breach) → j ≡ Err broken → Begun TEST text code values one values k used i (Err broken)
+  test-wrong broken q = record { is = λ g. wrong text code values k used i g one j c broken q }
 
-  module _ (bool : ℕ) (t : ℕ) (q : j ≡ judged.Typed bool t) (two values' : List ℕ) (r : Walked) (x : Chosen text one values two values' k used t r) where
-    pub test-cases-wrong : (number word : ℕ) → r ≡ Faulty number word → Begun TEST text code values two values' k used i r
-    test-cases-wrong number word e = record { is = λ g. cases-wrong text code values k used i g one j c bool t q two values' r x number word e }
+  module _ (type : ValueType) (t : ℕ) (q : j ≡ Ok (type, t)) (two values' : List ℕ) (r : Walked) (x : Chosen text one values two values' k used t r) where
+    pub test-cases-wrong : (broken : Breach) → r ≡ Err broken → Begun TEST text code values two values' k used i (Err broken)
+    test-cases-wrong broken e = record { is = λ g. cases-wrong text code values k used i g one j c type t q two values' r x broken e }
 
-    pub test-finished : (z : ℕ) (n : Scope) → r ≡ Upto z n → (three : List ℕ) → Linked two three i a_test t z → Begun TEST text code values three values' k used i (Upto z n)
-    test-finished z n q2 three l = record { is = λ g. finished text code values k used i g one j c bool t q two values' r x z n q2 three l }
+    pub test-finished : (z : ℕ) (n : Scope) → r ≡ Ok (z, n) → (three : List ℕ) → Linked two three i a_test t z → Begun TEST text code values three values' k used i (Ok (z, n))
+    test-finished z n q2 three l = record { is = λ g. finished text code values k used i g one j c type t q two values' r x z n q2 three l }

@@ -3,7 +3,7 @@ use Rattle.paper.specs.Words.{word_limit}
 use Rattle.check_names.specs.Promises.{store_bytes}
 use Rattle.layout.specs.Parts.{link_part}
 use mathlib.Core.Path.{◌≡◌, refl, sym, ap, subst, ◌∙◌}
-use mathlib.Core.Bool.{Bool, true, false}
+use mathlib.Core.Bool.{false}
 use mathlib.Core.List.{List, []}
 use Prim.Native.Nat.{ℕ, ◌+◌, ◌-◌, ◌%◌, ◌<◌, ◌≤◌}
 use native.Mathlib.Omega.{arith}
@@ -19,8 +19,6 @@ use Rattle.code.specs.Cells.{place_at}
 use Rattle.grammar.specs.Form.{Parses}
 use Rattle.grammar.proofs.Inversions.{IsWhile, statement-while}
 use Rattle.grammar.proofs.Places.{list-grows}
-use Rattle.check_expressions.specs.declared.Judged.{Judged}
-use Rattle.check_expressions.specs.declared.Judged.TheVariants as judged
 use Rattle.store_writing.specs.Promises.{Kept}
 use Rattle.store_writing.proofs.Keeping.{place-below, linked-place}
 use Rattle.check_expressions.specs.Answers.{OfType}
@@ -33,17 +31,19 @@ use Rattle.check_links.specs.Raw.{RawWord, RawDo, RawTerm, RawList, RawWhile, Ra
 use Rattle.check_around.specs.declared.Setting.{Setting}
 use Rattle.check_around.specs.Around.{Around, ground_of, offset_in}
 use Rattle.check_names.specs.declared.Scope.{Scope}
-use Rattle.check_names.specs.declared.Walked.{Walked}
-use Rattle.check_names.specs.declared.Walked.TheVariants.{Upto, Faulty}
 use Rattle.check_statements.specs.Answers.{Stands, Lists, Done, Answer, StatementAnswer, Listed, Begins, Begun}
 use Rattle.check_compounds.specs.Here.{Outside}
 use Rattle.check_compounds.specs.Parts.{WhileEnded}
 use Rattle.check_compounds.proofs.Frames.{outside_wider, outside-on, kept-outside, same-before, same-behind, same-on, tail-before, here_on, term-same, list_same, op_same, value_same, word_same, linked-outside, linked-word}
 use Rattle.check_compounds.proofs.ExpressionsJudged.{expression-stands, judged-faulty, judged-long, judged-none, judged-next, judged-term, judged-kept}
-use Rattle.check_statements.proofs.ListWalk.{upto_done, faulty-first, done-answer, first-answer, faulty-answer}
+use Rattle.check_statements.proofs.ListWalk.{upto_done, faulty-first, done-answer, first-answer}
 use Rattle.code.specs.Steps.{a_while}
-use Rattle.layout.specs.Types.{bool_type}
-use Rattle.layout.proofs.Typing.{bool-in}
+use Rattle.layout.specs.declared.types.ValueType.{ValueType}
+use Rattle.layout.specs.declared.types.ValueType.TheVariants.{Bool}
+use Rattle.check_names.specs.Scopes.{Walked}
+use Rattle.check_expressions.specs.Judgements.{Judged}
+use Rattle.std.specs.Prelude.{Ok, Err}
+use Rattle.layout.specs.declared.rules.Breach.{Breach}
 
 module _ (text code values : List ℕ) (k : Setting) (used i : ℕ) (g : Begins WHILE text code values k used i) where
   abbrev s : Stands text code values k used i
@@ -82,28 +82,28 @@ module _ (text code values : List ℕ) (k : Setting) (used i : ℕ) (g : Begins 
   body-inside : Inside (w.do_at + 1) w.end (list_faults a.known.W a.K a.M w.body a.known.S used)
   body-inside = list_inside a.known.W a.K a.M w.list a.known.S used
 
-  module _ (one : List ℕ) (j : Judged) (c : OfType code values one false bool_type (i + 1) j) where
-    wrong : (number word : ℕ) → j ≡ judged.Faulty number word → StatementAnswer g.stands one values (Faulty number word)
+  module _ (one : List ℕ) (j : Judged) (c : OfType code values one false Bool (i + 1) j) where
+    wrong : (broken : Breach) → j ≡ Err broken → StatementAnswer g.stands one values (Err broken)
     unfolding statement_faults
-    wrong number word q =
-        subst (ForStatement one values (Faulty number word)) (sym w.is)
-        (first-answer _ _ _ _ _ _ _ _ number word _
-        (first-before (judged-faulty text code values a k used i s.to s.here w.e (i + 1) w.do_at w.condition no-operator (omega arith) (omega (arith, listed, w.after)) one bool_type a_bool bool-in j c number word q)
+    wrong broken q =
+        subst (ForStatement one values (Err broken)) (sym w.is)
+        (first-answer _ _ _ _ _ _ _ _ broken _
+        (first-before (judged-faulty text code values a k used i s.to s.here w.e (i + 1) w.do_at w.condition no-operator (omega arith) (omega (arith, listed, w.after)) one Bool a_bool refl j c broken q)
         condition-inside body-inside (omega arith))
-        (judged-long text code values a k used i s.to s.here w.e (i + 1) w.do_at w.condition no-operator (omega arith) (omega (arith, listed, w.after)) one bool_type a_bool bool-in j c))
+        (judged-long text code values a k used i s.to s.here w.e (i + 1) w.do_at w.condition no-operator (omega arith) (omega (arith, listed, w.after)) one Bool a_bool refl j c))
 
-    module _ (bool : ℕ) (d : ℕ) (q : j ≡ judged.Typed bool d) where
+    module _ (type : ValueType) (d : ℕ) (q : j ≡ Ok (type, d)) where
       do-at : d ≡ w.do_at
-      do-at = judged-next text code values a k used i s.to s.here w.e (i + 1) w.do_at w.condition no-operator (omega arith) (omega (arith, listed, w.after)) one bool_type a_bool bool-in j c bool d q
+      do-at = judged-next text code values a k used i s.to s.here w.e (i + 1) w.do_at w.condition no-operator (omega arith) (omega (arith, listed, w.after)) one Bool a_bool refl j c type d q
 
       fine : of_type a.known.W a_bool a.known.S w.e ≡ []
-      fine = judged-none text code values a k used i s.to s.here w.e (i + 1) w.do_at w.condition no-operator (omega arith) (omega (arith, listed, w.after)) one bool_type a_bool bool-in j c bool d q
+      fine = judged-none text code values a k used i s.to s.here w.e (i + 1) w.do_at w.condition no-operator (omega arith) (omega (arith, listed, w.after)) one Bool a_bool refl j c type d q
 
       term : RawTerm (ground_of a) a.known.n (cells_of one) a.known.S w.e (i + 1) w.do_at
-      term = judged-term text code values a k used i s.to s.here w.e (i + 1) w.do_at w.condition no-operator (omega arith) (omega (arith, listed, w.after)) one bool_type a_bool bool-in j c bool d q
+      term = judged-term text code values a k used i s.to s.here w.e (i + 1) w.do_at w.condition no-operator (omega arith) (omega (arith, listed, w.after)) one Bool a_bool refl j c type d q
 
       kept : Kept code one (i + 1) w.do_at
-      kept = judged-kept text code values a k used i s.to s.here w.e (i + 1) w.do_at w.condition no-operator (omega arith) (omega (arith, listed, w.after)) one bool_type a_bool bool-in j c bool d q
+      kept = judged-kept text code values a k used i s.to s.here w.e (i + 1) w.do_at w.condition no-operator (omega arith) (omega (arith, listed, w.after)) one Bool a_bool refl j c type d q
 
       pub while-forward : (i < d) × (d < word_limit)
       while-forward = (omega (arith, do-at, begins), omega (arith, do-at, listed, w.after, last))
@@ -130,13 +130,13 @@ module _ (text code values : List ℕ) (k : Setting) (used i : ℕ) (g : Begins 
         unfolding lists
         body = (subst (λ (x : ℕ). Listed text one values two values' k used (x + 1) r) do-at l).is lists
 
-        list-wrong : (number word : ℕ) → r ≡ Faulty number word → StatementAnswer g.stands two values' r
+        list-wrong : (broken : Breach) → r ≡ Err broken → StatementAnswer g.stands two values' (Err broken)
         unfolding statement_faults
-        list-wrong number word e =
-            subst (ForStatement two values' r) (sym w.is)
-            (faulty-answer _ _ _ _ _ _ _ _ _ r number word e (first-after fine (faulty-first r body number word e)) (body.long ∙ kept.long))
+        list-wrong broken e =
+            subst (ForStatement two values' (Err broken)) (sym w.is)
+            (first-answer _ _ _ _ _ _ _ _ broken _ (first-after fine (faulty-first r body broken e)) (body.long ∙ kept.long))
 
-        module _ (e : ℕ) (n : Scope) (q2 : r ≡ Upto e n) where
+        module _ (e : ℕ) (n : Scope) (q2 : r ≡ Ok (e, n)) where
           done : Done (list_faults a.known.W a.K a.M w.body a.known.S used) one two values values' (w.do_at + 1) w.end (used + fors_in_list w.body) e n.used
               (RawList (ground_of a) a.known.n (cells_of two) w.body a.known.S used (w.do_at + 1) w.end)
           done = upto_done r body e n q2
@@ -197,10 +197,10 @@ module _ (text code values : List ℕ) (k : Setting) (used i : ℕ) (g : Begins 
                 (outside_wider i s.to from-mid (omega (arith, begins, listed)) (omega (arith, w.after))))
                 (outside_wider i s.to from_last (omega arith) (omega (arith, begins, listed, w.after)))
 
-            finished : StatementAnswer g.stands three values' (Upto (e + 1) n)
+            finished : StatementAnswer g.stands three values' (Ok (e + 1, n))
             unfolding statement_faults fors_in RawStatement
             finished =
-                subst (ForStatement three values' (Upto (e + 1) n)) (sym w.is)
+                subst (ForStatement three values' (Ok (e + 1, n))) (sym w.is)
                 (done-answer _ _ _ _ _ _ _ _ _ _ _
                 (record {
                   none = nothing-in-both fine done.none;
@@ -214,13 +214,13 @@ module _ (text code values : List ℕ) (k : Setting) (used i : ℕ) (g : Begins 
                 (y.head.kept.long ∙ y.again.kept.long ∙ y.opens.kept.long ∙ body.long ∙ kept.long))
 
 -- ---- for whatever the statement is
-module _ (text code values : List ℕ) (k : Setting) (used i : ℕ) (one : List ℕ) (j : Judged) (c : OfType code values one false bool_type (i + 1) j) where
-  pub while-wrong : (number word : ℕ) → j ≡ judged.Faulty number word → Begun WHILE text code values one values k used i (Faulty number word)
-  while-wrong number word q = record { is = λ g. wrong text code values k used i g one j c number word q }
+module _ (text code values : List ℕ) (k : Setting) (used i : ℕ) (one : List ℕ) (j : Judged) (c : OfType code values one false Bool (i + 1) j) where
+  pub while-wrong : (broken : Breach) → j ≡ Err broken → Begun WHILE text code values one values k used i (Err broken)
+  while-wrong broken q = record { is = λ g. wrong text code values k used i g one j c broken q }
 
-  module _ (bool : ℕ) (d : ℕ) (q : j ≡ judged.Typed bool d) (two values' : List ℕ) (r : Walked) (l : Listed text one values two values' k used (d + 1) r) where
-    pub while-list-wrong : (number word : ℕ) → r ≡ Faulty number word → Begun WHILE text code values two values' k used i r
-    while-list-wrong number word e = record { is = λ g. list-wrong text code values k used i g one j c bool d q two values' r l number word e }
+  module _ (type : ValueType) (d : ℕ) (q : j ≡ Ok (type, d)) (two values' : List ℕ) (r : Walked) (l : Listed text one values two values' k used (d + 1) r) where
+    pub while-list-wrong : (broken : Breach) → r ≡ Err broken → Begun WHILE text code values two values' k used i (Err broken)
+    while-list-wrong broken e = record { is = λ g. list-wrong text code values k used i g one j c type d q two values' r l broken e }
 
-    pub while-finished : (e : ℕ) (scope : Scope) → r ≡ Upto e scope → (three : List ℕ) → WhileEnded two three i d e → Begun WHILE text code values three values' k used i (Upto (e + 1) scope)
-    while-finished e scope q2 three x = record { is = λ g. finished text code values k used i g one j c bool d q two values' r l e scope q2 three x }
+    pub while-finished : (e : ℕ) (scope : Scope) → r ≡ Ok (e, scope) → (three : List ℕ) → WhileEnded two three i d e → Begun WHILE text code values three values' k used i (Ok (e + 1, scope))
+    while-finished e scope q2 three x = record { is = λ g. finished text code values k used i g one j c type d q two values' r l e scope q2 three x }

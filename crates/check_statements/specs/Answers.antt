@@ -1,5 +1,6 @@
 -- What the check of a list of statements asks, and what it answers.
-use Rattle.std.specs.Prelude.{◌≡◌, List, [], ℕ, ◌+◌, ◌≤◌, length}
+use Rattle.layout.specs.Broken.{as_fault}
+use Rattle.std.specs.Prelude.{◌≡◌, List, [], ℕ, ◌+◌, ◌≤◌, length, Ok, Err}
 use Rattle.paper.specs.Trees.{Statement, Statements}
 use Rattle.paper.specs.Names.{sort_in}
 use Rattle.paper.specs.Types.{Fault}
@@ -11,8 +12,7 @@ use Rattle.faults.specs.First.{First}
 use Rattle.check_links.specs.Raw.{RawStatement, RawList}
 use Rattle.check_around.specs.declared.Setting.{Setting}
 use Rattle.check_around.specs.Around.{Around, ground_of}
-use Rattle.check_names.specs.declared.Walked.{Walked}
-use Rattle.check_names.specs.declared.Walked.TheVariants.{Upto, Faulty}
+use Rattle.check_names.specs.Scopes.{Walked}
 use Rattle.check_compounds.specs.Here.{Outside, Here}
 
 -- ---- what is asked
@@ -54,8 +54,8 @@ pub record Done (fs : List Fault) (before after values values' : List ℕ) (at t
   pub same : SameValues values values'
 
 unfoldable pub Tell : (fs : List Fault) (before after values values' : List ℕ) (at to count : ℕ) (holds : Type 0) → Walked → Type 0
-Tell fs before after values values' at to count holds (Upto next scope) = Done fs before after values values' at to count next scope.used holds
-Tell fs before after values values' at to count holds (Faulty number word) = First (record { number = number; at = word }) fs
+Tell fs before after values values' at to count holds (Ok (next, scope)) = Done fs before after values values' at to count next scope.used holds
+Tell fs before after values values' at to count holds (Err broken) = First (as_fault broken) fs
 
 -- Where a rule is broken nothing is promised of what is written.
 pub record Answer (fs : List Fault) (before after values values' : List ℕ) (at to count : ℕ) (holds : Type 0) (r : Walked) : Type 0 where

@@ -10,7 +10,7 @@ use Rattle.grammar.specs.Form.{Parses, SimpleAt, ListAt, ArmsAt, ElseAt, CasesAt
 use Rattle.check_links.specs.Raw.{RawTerm, RawElse, RawDefault, RawStatement, RawList, RawCases}
 use Rattle.check_around.specs.declared.Setting.{Setting}
 use Rattle.check_around.specs.Around.{Around, ground_of, offset_in, Calls}
-use Rattle.check_names.specs.declared.Walked.{Walked}
+use Rattle.check_names.specs.Scopes.{Walked}
 use Rattle.check_compounds.specs.Here.{Here}
 use Rattle.check_statements.specs.Answers.{Stands, Answer, StatementAnswer}
 

@@ -1,19 +1,20 @@
 // The check of statements in lists: what a run has to know of them is written over their words in the code store. Links lead to the next word as it stands in the text; crate links makes
-// steps of them.
+// steps of them. All that check a statement take the text, both stores, the setting and the scope: a struct of these would be no plainer, since the scope is another behind each statement and
+// each store is lent by itself.
 #![tactic(auto)]
 
 ghost use Rattle.std.specs.Prelude.{◌≡◌, ◌+◌};
 ghost use Rattle.paper.specs.Sorts.{IF, FOR, WHILE, TEST};
-ghost use Rattle.paper.specs.Expressions.{starts_statement};
 ghost use Rattle.check_names.specs.Scopes.{EachHasWord, Stays};
 ghost use Rattle.check_statements.specs.Answers.{Stands, Stated, Lists, Listed, Begins, Begun};
 ghost use Rattle.check_statements.specs.Parts.{Plain, Plainly, Compacts, Compacted, Thens, Thened, Elses, Elsed, Defaults, Defaulted, Chooses, Chosen};
 
 use check_around::Setting;
-use check_expressions::Judged;
 use check_names::{Scope, Walked};
-use layout::{ops, types};
+use layout::ops;
+use layout::types::ValueType;
 use store_writing::{rewrite, set_link, set_word, sort};
+use text_sorts::starts_statement;
 
 // ---- WHILE
 
@@ -29,18 +30,10 @@ fn while_statement(
     requires { Begins WHILE text.now code.old values.old k scope.used i × EachHasWord scope }
     ensures { Begun WHILE text.now code.old values.old code.new values.new k scope.used i result × Stays scope result }
 {
-    let j = check_expressions::of_type(code, values, false, types::BOOL, i + 1);
-    match j {
-        Judged::Faulty(number, word) => Walked::Faulty(number, word),
-        Judged::Typed(_, d) => {
-            let r = list(text, code, values, k, scope, d + 1);
-            let Walked::Upto(e, n) = r else {
-                return r;
-            };
-            check_compounds::while_end(code, i, d, e);
-            Walked::Upto(e + 1, n)
-        }
-    }
+    let (_, d) = check_expressions::of_type(code, values, false, ValueType::Bool, i + 1)?;
+    let (e, n) = list(text, code, values, k, scope, d + 1)?;
+    check_compounds::while_end(code, i, d, e);
+    Ok((e + 1, n))
 }
 
 // ---- FOR
@@ -58,20 +51,12 @@ fn for_statement(
     ensures { Begun FOR text.now code.old values.old code.new values.new k scope.used i result × Stays scope result }
 {
     let used = scope.used;
-    let j = check_compounds::for_head(code, values, used, i);
-    match j {
-        Judged::Faulty(number, word) => Walked::Faulty(number, word),
-        Judged::Typed(_, d) => {
-            let inner = scope.enter(code, values, i);
-            let r = list(text, code, values, k, inner, d + 1);
-            let Walked::Upto(e, n) = r else {
-                return r;
-            };
-            let outer = n.leave(scope, code, values);
-            check_compounds::for_end(code, used, i, d, e);
-            Walked::Upto(e + 1, outer)
-        }
-    }
+    let d = check_compounds::for_head(code, values, used, i)?;
+    let inner = scope.enter(code, values, i);
+    let (e, n) = list(text, code, values, k, inner, d + 1)?;
+    let outer = n.leave(scope, code, values);
+    check_compounds::for_end(code, used, i, d, e);
+    Ok((e + 1, outer))
 }
 
 // ---- IF
@@ -89,14 +74,9 @@ fn compact_if(
     requires { Compacts text.now code.old values.now k scope.used i t }
     ensures { Compacted text.now code.old values.now code.new k scope.used i t result × Stays scope result }
 {
-    let j = check_simple::statement(text, code, values, k, t);
-    match j {
-        Judged::Faulty(number, word) => Walked::Faulty(number, word),
-        Judged::Typed(_, n) => {
-            set_word(code, i, ops::COMPACT_IF, t as u32, n);
-            Walked::Upto(n, scope)
-        }
-    }
+    let n = check_simple::statement(text, code, values, k, t)?;
+    set_word(code, i, ops::COMPACT_IF, t as u32, n);
+    Ok((n, scope))
 }
 
 // ELSE with its list, or ENDIF.
@@ -114,15 +94,12 @@ fn else_part(
 {
     if sort(code, c) != text_sorts::ELSE {
         set_word(code, c, ops::PASS, 0, c + 1);
-        return Walked::Upto(c + 1, scope);
+        return Ok((c + 1, scope));
     }
-    let r = list(text, code, values, k, scope, c + 1);
-    let Walked::Upto(z, n) = r else {
-        return r;
-    };
+    let (z, n) = list(text, code, values, k, scope, c + 1)?;
     set_word(code, c, ops::PASS, 0, z);
     set_word(code, z, ops::PASS, 0, z + 1);
-    Walked::Upto(z + 1, n)
+    Ok((z + 1, n))
 }
 
 // A full IF at i, whose first THEN is at `first`. An arm begins with IF or ELSEIF, at c.
@@ -143,30 +120,20 @@ fn full_if(
     let mut c = i;
     let mut t = first;
     let mut n = scope;
+    // no range counts the arms: each begins where the list before it ends
     loop {
-        let r = list(text, code, values, k, n, t + 1);
-        let Walked::Upto(e, u) = r else {
-            return r;
-        };
+        let (e, u) = list(text, code, values, k, n, t + 1)?;
         check_compounds::arm_end(code, op, c, t, e);
         if sort(code, e) != text_sorts::ELSEIF {
-            let r = else_part(text, code, values, k, u, e);
-            let Walked::Upto(z, v) = r else {
-                return r;
-            };
+            let (z, v) = else_part(text, code, values, k, u, e)?;
             set_link(code, i, z);
-            return Walked::Upto(z, v);
+            return Ok((z, v));
         }
-        let j = check_expressions::of_type(code, values, false, types::BOOL, e + 1);
-        match j {
-            Judged::Faulty(number, word) => return Walked::Faulty(number, word),
-            Judged::Typed(_, m) => {
-                op = ops::ELSE_IF;
-                c = e;
-                t = m;
-                n = u;
-            }
-        }
+        let (_, m) = check_expressions::of_type(code, values, false, ValueType::Bool, e + 1)?;
+        op = ops::ELSE_IF;
+        c = e;
+        t = m;
+        n = u;
     }
 }
 
@@ -182,16 +149,11 @@ fn if_statement(
     requires { Begins IF text.now code.old values.old k scope.used i × EachHasWord scope }
     ensures { Begun IF text.now code.old values.old code.new values.new k scope.used i result × Stays scope result }
 {
-    let j = check_expressions::of_type(code, values, false, types::BOOL, i + 1);
-    match j {
-        Judged::Faulty(number, word) => Walked::Faulty(number, word),
-        Judged::Typed(_, t) => {
-            if sort(code, t) != text_sorts::THEN {
-                return compact_if(text, code, values, k, scope, i, t);
-            }
-            full_if(text, code, values, k, scope, i, t)
-        }
+    let (_, t) = check_expressions::of_type(code, values, false, ValueType::Bool, i + 1)?;
+    if sort(code, t) != text_sorts::THEN {
+        return compact_if(text, code, values, k, scope, i, t);
     }
+    full_if(text, code, values, k, scope, i, t)
 }
 
 // ---- TEST
@@ -211,15 +173,12 @@ fn default(
 {
     if sort(code, c) != text_sorts::DEFAULT {
         rewrite(code, c, ops::OTHERWISE, c + 1, c + 1);
-        return Walked::Upto(c + 1, scope);
+        return Ok((c + 1, scope));
     }
-    let r = list(text, code, values, k, scope, c + 2);
-    let Walked::Upto(z, n) = r else {
-        return r;
-    };
+    let (z, n) = list(text, code, values, k, scope, c + 2)?;
     rewrite(code, c, ops::OTHERWISE, c + 2, z);
     set_word(code, z, ops::PASS, 0, z + 1);
-    Walked::Upto(z + 1, n)
+    Ok((z + 1, n))
 }
 
 // The cases of a TEST, from the first CASE, DEFAULT or ENDTEST on.
@@ -237,25 +196,18 @@ fn cases(
 {
     let mut c = first;
     let mut n = scope;
+    // no range counts the cases: each begins where the list before it ends
     loop {
         if sort(code, c) != text_sorts::CASE {
             return default(text, code, values, k, n, c);
         }
-        let j = check_compounds::case_values(code, values, c);
-        match j {
-            Judged::Faulty(number, word) => return Walked::Faulty(number, word),
-            Judged::Typed(_, colon) => {
-                let r = list(text, code, values, k, n, colon + 1);
-                let Walked::Upto(e, u) = r else {
-                    return r;
-                };
-                // where a list goes on that ends at this CASE is found behind it
-                set_word(code, c + 1, ops::PASS, 0, e);
-                check_compounds::link_values(code, c, colon, e);
-                c = e;
-                n = u;
-            }
-        }
+        let colon = check_compounds::case_values(code, values, c)?;
+        let (e, u) = list(text, code, values, k, n, colon + 1)?;
+        // where a list goes on that ends at this CASE is found behind it
+        set_word(code, c + 1, ops::PASS, 0, e);
+        check_compounds::link_values(code, c, colon, e);
+        c = e;
+        n = u;
     }
 }
 
@@ -271,18 +223,10 @@ fn test_statement(
     requires { Begins TEST text.now code.old values.old k scope.used i × EachHasWord scope }
     ensures { Begun TEST text.now code.old values.old code.new values.new k scope.used i result × Stays scope result }
 {
-    let j = check_expressions::of_type(code, values, false, types::NUM, i + 1);
-    match j {
-        Judged::Faulty(number, word) => Walked::Faulty(number, word),
-        Judged::Typed(_, c) => {
-            let r = cases(text, code, values, k, scope, c);
-            let Walked::Upto(z, n) = r else {
-                return r;
-            };
-            set_word(code, i, ops::TEST, c as u32, z);
-            Walked::Upto(z, n)
-        }
-    }
+    let (_, c) = check_expressions::of_type(code, values, false, ValueType::Num, i + 1)?;
+    let (z, n) = cases(text, code, values, k, scope, c)?;
+    set_word(code, i, ops::TEST, c as u32, z);
+    Ok((z, n))
 }
 
 // ---- statements
@@ -298,11 +242,8 @@ fn simple_statement(
     requires { Plain text.now code.old values.now k scope.used i }
     ensures { Plainly text.now code.old values.now code.new k scope.used i result × Stays scope result }
 {
-    let j = check_simple::statement(text, code, values, k, i);
-    match j {
-        Judged::Faulty(number, word) => Walked::Faulty(number, word),
-        Judged::Typed(_, n) => Walked::Upto(n, scope),
-    }
+    let n = check_simple::statement(text, code, values, k, i)?;
+    Ok((n, scope))
 }
 
 #[cycle(cases_default_else_part_for_statement_full_if_if_statement_list_statement_test_statement_while_statement)]
@@ -317,39 +258,12 @@ fn statement(
     requires { Stands text.now code.old values.old k scope.used i × EachHasWord scope }
     ensures { Stated text.now code.old values.old code.new values.new k scope.used i result × Stays scope result }
 {
-    let s = sort(code, i);
-    if s == text_sorts::IF {
-        return if_statement(text, code, values, k, scope, i);
-    }
-    if s == text_sorts::FOR {
-        return for_statement(text, code, values, k, scope, i);
-    }
-    if s == text_sorts::WHILE {
-        return while_statement(text, code, values, k, scope, i);
-    }
-    if s == text_sorts::TEST {
-        return test_statement(text, code, values, k, scope, i);
-    }
-    simple_statement(text, code, values, k, scope, i)
-}
-
-fn starts_statement(s: u32) -> bool
-    ensures { result ≡ starts_statement s }
-{
-    match s {
-        text_sorts::NAME => true,
-        text_sorts::RETURN => true,
-        text_sorts::RAISE => true,
-        text_sorts::EXIT => true,
-        text_sorts::RETRY => true,
-        text_sorts::TRYNEXT => true,
-        text_sorts::TPWRITE => true,
-        text_sorts::TPREADNUM => true,
-        text_sorts::IF => true,
-        text_sorts::FOR => true,
-        text_sorts::WHILE => true,
-        text_sorts::TEST => true,
-        _ => false,
+    match sort(code, i) {
+        text_sorts::IF => if_statement(text, code, values, k, scope, i),
+        text_sorts::FOR => for_statement(text, code, values, k, scope, i),
+        text_sorts::WHILE => while_statement(text, code, values, k, scope, i),
+        text_sorts::TEST => test_statement(text, code, values, k, scope, i),
+        _ => simple_statement(text, code, values, k, scope, i),
     }
 }
 
@@ -368,17 +282,11 @@ pub fn list(
 {
     let mut i = at;
     let mut n = scope;
-    loop {
-        let s = sort(code, i);
-        if starts_statement(s) {
-            let r = statement(text, code, values, k, n, i);
-            let Walked::Upto(m, u) = r else {
-                return r;
-            };
-            i = m;
-            n = u;
-            continue;
-        }
-        return Walked::Upto(i, n);
+    // no range counts the statements: each begins where the one before it ends
+    while starts_statement(sort(code, i)) {
+        let (m, u) = statement(text, code, values, k, n, i)?;
+        i = m;
+        n = u;
     }
+    Ok((i, n))
 }

@@ -1,33 +1,35 @@
 -- The check on the parts of both stores that it is lent: what holds there holds of the whole.
 use mathlib.Core.Path.{◌≡◌, refl, sym, ap, subst, ◌∙◌}
-use mathlib.Core.Bool.{Bool, true, false, ◌||◌}
-use mathlib.Core.List.{List, [], ◌∷◌, ◌++◌, map, append-nil}
-use Prim.Native.Nat.{ℕ, ◌+◌, ◌*◌, ◌<◌, ◌≤◌}
+use mathlib.Core.List.{List, [], ◌++◌, map, append-nil}
+use Prim.Native.Nat.{ℕ, ◌<◌, ◌≤◌}
 use native.Mathlib.Omega.{arith}
-use lib.Dec.{ltb}
 use lib.ListN.{length, get_or, take, drop, replicate, length-replicate, get_or-append}
 use lib.Seq.{length-take-le, length_front, drop-length, take_at, drop_at, take-append-le, take_all}
 use mir.Syntax.{w32}
 use mir.Val.{to_z}
 use borrow.Author.Tests.{lt-ltb, le-ltb}
-use Rattle.paper.specs.Steps.{Program}
-use Rattle.paper.specs.Answer.{Accepted, Verdict, refused_by, accepted, verdict, offset_of, store_words}
+use Rattle.paper.specs.Answer.{Verdict, refused_by, accepted, verdict, offset_of, store_words}
 use Rattle.store_cells.specs.Cells.{cells_of}
-use Rattle.store_cells.proofs.Laws.{length-words, words_append, words_take}
+use Rattle.store_cells.proofs.Laws.{length-words, words_append}
 use Rattle.code.specs.Holds.{Holds}
-use Rattle.check_whole.specs.declared.Checked.{Checked}
-use Rattle.check_whole.specs.declared.Checked.TheVariants as checked
-use Rattle.check_whole.specs.Checks.{store_bytes, Ready, Refused, Emptied, Judges, TooSmall, Checks}
+use Rattle.check_whole.specs.Checks.{store_bytes, Emptied, Judges, Checks, Checked}
 use Rattle.check_whole.specs.Passes.{Whole}
+use Rattle.std.specs.Prelude.{Err}
+use Rattle.layout.specs.declared.rules.Rule.TheVariants.{SmallStore}
+use mathlib.Core.Logic.{◌⊎◌, inl, inr}
 
 -- ---- too small
-pub code-small : (text code values : List ℕ) → length code < store_bytes → Checks text code values (checked.Refused 1 0) code values
+code-small : (text code values : List ℕ) → length code < store_bytes → Checks text code values (Err (record { rule = SmallStore; place = 0 })) code values
 unfolding Checks
 code-small text code values h = rw (lt-ltb (length code) store_bytes h, Checks) (record { answer = refl; code_same = refl; values_same = refl })
 
-pub values-small : (text code values : List ℕ) → store_bytes ≤ length code → length values < store_bytes → Checks text code values (checked.Refused 1 0) code values
+values-small : (text code values : List ℕ) → store_bytes ≤ length code → length values < store_bytes → Checks text code values (Err (record { rule = SmallStore; place = 0 })) code values
 unfolding Checks
 values-small text code values g h = rw (le-ltb (length code) store_bytes (omega arith), lt-ltb (length values) store_bytes h, Checks) (record { answer = refl; code_same = refl; values_same = refl })
+
+pub stores_small : (text code values : List ℕ) → (length code < store_bytes) ⊎ ((store_bytes ≤ length code) × (length values < store_bytes)) → Checks text code values (Err (record { rule = SmallStore; place = 0 })) code values
+stores_small text code values (inl h) = code-small text code values h
+stores_small text code values (inr h) = values-small text code values h.0 h.1
 
 -- ---- parts
 part : (l : List ℕ) → store_bytes ≤ length l → length (take store_bytes l) ≡ store_bytes

@@ -1,30 +1,25 @@
 -- What the walk over names and types takes from the loading.
-use mathlib.Core.Path.{◌≡◌, refl, sym, ap, subst, ◌∙◌}
-use mathlib.Core.Bool.{Bool, true, false, ◌||◌}
-use mathlib.Core.List.{List, [], ◌∷◌, ◌++◌, map}
-use Prim.Native.Nat.{ℕ, zero, suc, ◌+◌, ◌-◌, ◌*◌, ◌/◌, ◌%◌, ◌<◌, ◌≤◌}
+use mathlib.Core.Path.{◌≡◌, refl, ap, ◌∙◌}
+use mathlib.Core.Bool.{false}
+use mathlib.Core.List.{List}
+use Prim.Native.Nat.{ℕ, ◌+◌, ◌-◌, ◌*◌, ◌%◌, ◌<◌, ◌≤◌}
 use native.Mathlib.Omega.{arith}
-use lib.Dec.{eqb}
 use lib.ListN.{length, get_or, take, drop, get_or-eq_default}
-use borrow.Author.Tests.{eqb-false}
 use Rattle.laws.proofs.Tests.{by_less}
 use Rattle.paper.specs.Sorts.{NAME, NUMBER, STRING, ENDMODULE}
-use Rattle.paper.specs.Words.{Word, reading}
+use Rattle.paper.specs.Words.{Word}
 use Rattle.paper.specs.Trees.{Module}
-use Rattle.paper.specs.Expressions.{got, is_type, starts_routine}
-use Rattle.paper.specs.Form.{formed}
+use Rattle.paper.specs.Expressions.{is_type, starts_routine}
 use Rattle.paper.specs.Names.{no_word, nth, sort_in}
 use Rattle.store_cells.specs.Cells.{cells_of}
-use Rattle.code.specs.Cells.{head_at, tail_at, op_at, value_at, place_at, value_in, place_in, op_in}
+use Rattle.code.specs.Cells.{head_at, op_at, value_at, value_in, place_in, op_in}
 use Rattle.code.specs.Steps.{a_target}
-use Rattle.check_names.specs.Numbers.{number_of, IsName}
-use Rattle.check_names.specs.Promises.{store_bytes, number_at}
-use Rattle.grammar.specs.Form.{Parses, ModuleAt, Stands}
+use Rattle.grammar.specs.Form.{Parses, Stands}
 use Rattle.grammar.proofs.Reading.{formed-parses}
-use Rattle.check_load.specs.Layout.{words_in, head_value, head_of}
+use Rattle.check_load.specs.Layout.{words_in, head_value}
 use Rattle.check_load.proofs.Bounds.{reading-good, reading-most}
 use Rattle.check_load.proofs.Results.{loads-sorts, loads-numbers}
-use Rattle.check_expressions.specs.Known.{Fresh, Loaded, largest}
+use Rattle.check_expressions.specs.Known.{Fresh, largest}
 use Rattle.check_heads.specs.Stores.{Marked, is_valued}
 use Rattle.check_heads.specs.Reads as heads
 use Rattle.check_around.specs.Around.{Quoted, Unread}

@@ -1,38 +1,35 @@
 -- The check of names and types: from what loading left to what the walk over the routines asks, and from its answer to what is promised.
 use mathlib.Core.Path.{◌≡◌, refl, sym, ap, ap₂, subst, ◌∙◌}
-use mathlib.Core.Bool.{Bool, true, false}
-use mathlib.Core.List.{List, [], ◌∷◌, ◌++◌, map}
-use mathlib.Core.Option.{Option, none, some}
+use mathlib.Core.Bool.{true, false}
+use mathlib.Core.List.{List, [], ◌∷◌, map}
+use mathlib.Core.Option.{none, some}
+use mathlib.Core.Option as math
 use Prim.Native.Nat.{ℕ, zero, suc, ◌+◌, ◌*◌, ◌-◌, ◌<◌, ◌≤◌}
 use native.Mathlib.Omega.{arith}
-use lib.Dec.{eqb, ltb}
 use lib.ListN.{length, get_or, take}
 use lib.IntN.{ℤ, pos}
 use mir.Syntax.{w32}
 use mir.Val.{to_z}
 use borrow.Author.Tests.{eqb-true, lt-ltb}
 use Rattle.laws.proofs.Tests.{test, apart, false-true}
-use Rattle.std.specs.Prelude.{if◌then◌else◌}
+use Rattle.std.specs.Prelude.{Ok, Err, Some, None, Option}
 use Rattle.paper.specs.Sorts.{equal_texts}
 use Rattle.paper.specs.Words.{Word}
 use Rattle.paper.specs.Terms.{Ref, of_module, of_routine, Memory, load}
 use Rattle.paper.specs.Trees.{Routine, Module}
 use Rattle.paper.specs.Expressions.{got}
 use Rattle.paper.specs.Form.{formed}
-use Rattle.paper.specs.Names.{DataType, Meaning, unknown, the_routine, the_errno, error_number, Text, Names, text_of, Scopes, nth, sort_in, spelled, look_in, protected, is_among, meaning, cannot_declare}
-use Rattle.paper.specs.Types.{Fault}
-use Rattle.paper.specs.Declarations.{Signature, Data, no_data, data_texts, routine_names, module_filling, module_data, signatures, declare_data, module_word_limit}
-use Rattle.paper.specs.Checks.{no_signature, faults, is_main, main_in, main_of}
+use Rattle.paper.specs.Names.{DataType, Meaning, unknown, the_routine, the_errno, error_number, Text, Names, sort_in, spelled, look_in, protected, is_among, meaning, cannot_declare}
+use Rattle.paper.specs.Declarations.{Signature, Data, no_data, data_texts, routine_names, module_filling, module_data, signatures, module_word_limit}
+use Rattle.paper.specs.Checks.{no_signature, is_main, main_in, main_of}
 use Rattle.paper.specs.Answer.{offset_of}
 use Rattle.store_cells.specs.Cells.{cells_of}
 use Rattle.store_cells.proofs.Laws.{length-words}
-use Rattle.code.specs.Cells.{head_at, value_at}
+use Rattle.code.specs.Cells.{value_at}
 use Rattle.code.specs.Steps.{Head, no_head, numbered}
-use Rattle.code.specs.Signatures.{types_at, first_parameter, head_in, signature_in, SignatureAt, Heads}
+use Rattle.code.specs.Signatures.{first_parameter, head_in, signature_in, Heads}
 use Rattle.code.proofs.Signatures.{types-length}
-use Rattle.check_names.specs.Meanings.{is_protected}
-use Rattle.check_names.specs.Promises.{store_bytes}
-use Rattle.grammar.specs.Form.{Parses, RoutinesAt, ModuleAt, Stands}
+use Rattle.grammar.specs.Form.{Parses, RoutinesAt, Stands}
 use Rattle.grammar.proofs.Reading.{formed-parses}
 use Rattle.grammar.proofs.Places.{declarations-grow, routines-grow}
 use Rattle.check_load.specs.Layout.{words_in}
@@ -43,23 +40,19 @@ use Rattle.faults.proofs.Declarations.{data-left}
 use Rattle.faults.proofs.Routines.{found-in-module}
 use Rattle.check_expressions.specs.Known.{InRoom}
 use Rattle.check_constants.specs.Answers.{cell_of}
-use Rattle.check_links.specs.Raw.{Ground}
-use Rattle.check_program.specs.Routines.{RawModule}
 use Rattle.check_heads.specs.Trees.{heads_for}
 use Rattle.check_heads.specs.Reads as heads
 use Rattle.check_sites.specs.Sites.{the_module, filling, own_of, owned, Placed, scopes_of, memory_of, Filled}
 use Rattle.check_declarations.specs.Answers.{DataStand, ModuleFilled, SaysModule, DeclaresModule}
 use Rattle.check_around.specs.Around.{Unread, offset_in}
 use Rattle.check_names.specs.declared.Scope.{Scope}
-use Rattle.check_names.specs.Scopes.{module_scope, Grown}
-use Rattle.check_names.specs.declared.Walked.{Walked}
-use Rattle.check_names.specs.declared.Walked.TheVariants as variants
+use Rattle.check_names.specs.Scopes.{module_scope, Grown, Walked}
 use Rattle.check_routines.specs.Answers.{ground_of}
-use Rattle.check_whole.specs.declared.Found.{Found}
-use Rattle.check_whole.specs.declared.Found.TheVariants.{Main, NoMain, Faulty}
-use Rattle.check_whole.specs.Walks.{Laid, Formed, Named, Nameless, Finds, RoutinesStand, RoutinesDone, SaysRoutines, RoutinesWalk, Walks}
+use Rattle.check_whole.specs.Walks.{Formed, Finds, RoutinesStand, RoutinesDone, SaysRoutines, RoutinesWalk, Walks, Found}
 use Rattle.check_whole.proofs.Loaded.{module-words, numbers-small, unread-marked, unread-kept, heads-begin}
 use Rattle.check_whole.proofs.Signatures.{heads-kept}
+use Rattle.layout.specs.Broken.{as_fault}
+use Rattle.layout.specs.declared.rules.Breach.{Breach}
 
 -- ---- before any data are declared, no name means data
 record Free (M : Memory) (a : Meaning) : Type 0 where
@@ -106,23 +99,23 @@ free-protected M u other f =
     (look-first M u _ _ _ other (free-number M _ (omega arith)) (look-first M u _ _ _ other (free-number M _ (omega arith)) (look_none M u other f)))))
 
 -- ---- main
-main-is : (W : List Word) (sigs : List Signature) (o : Option ℕ) (k : ℕ) → main_in W sigs o ≡ some k → is_main W (get_or sigs k no_signature) ≡ true
+main-is : (W : List Word) (sigs : List Signature) (o : math.Option ℕ) (k : ℕ) → main_in W sigs o ≡ some k → is_main W (get_or sigs k no_signature) ≡ true
 unfolding main_in
 main-is W sigs none k e = absurd (apart (cc))
 main-is W sigs (some j) k e =
     test (is_main W (get_or sigs j no_signature)) (λ t. let q : some j ≡ some k = rw (t, main_in) at e in let s : j ≡ k = cc in subst (λ (i : ℕ). is_main W (get_or sigs i no_signature) ≡ true) s t)
-    (λ t. let q : ◌≡◌ {A = Option ℕ} none (some k) = rw (t, main_in) at e in absurd (apart (cc)))
+    (λ t. let q : ◌≡◌ {A = math.Option ℕ} none (some k) = rw (t, main_in) at e in absurd (apart (cc)))
 
 no-parameters : (W : List Word) (sig : Signature) → is_main W sig ≡ true → length sig.parameters ≡ 0
 unfolding is_main
 no-parameters W sig e = go sig.result refl
   where
-    go : (o : Option DataType) → sig.result ≡ o → length sig.parameters ≡ 0
+    go : (o : math.Option DataType) → sig.result ≡ o → length sig.parameters ≡ 0
     go none q = eqb-true (length sig.parameters) 0 (rw (q, is_main) at e)
     go (some t) q = false-true (rw (q, is_main) at e)
 
 -- "main without parameters"
-alone_of : (W : List Word) (C : List ℕ) (R : List Head) (sigs : List Signature) → Heads C R sigs → (o : Option ℕ) (k : ℕ) → main_in W sigs o ≡ some k → k < length R → (get_or R k no_head).parameters ≡ 0
+alone_of : (W : List Word) (C : List ℕ) (R : List Head) (sigs : List Signature) → Heads C R sigs → (o : math.Option ℕ) (k : ℕ) → main_in W sigs o ≡ some k → k < length R → (get_or R k no_head).parameters ≡ 0
 unfolding head_in signature_in
 alone_of W C R sigs x o k e h =
     let s = x.each k h in
@@ -155,7 +148,7 @@ module _ (W : List Word) (routine : ℕ → ℕ) (known : Names) (D : Data) (val
   data-words = words-from D.words (cells_of values) (length D.words) refl (omega (arith, data-most, length-words values, x.table)) (λ i h. x.cells (of_module i) (omega arith))
 
 -- ---- module data come next
-module _ (text code values : List ℕ) (words : ℕ) (f : Formed text code values words) (code₁ values₁ : List ℕ) (main : ℕ) (reads : heads.Reads text code values code₁ values₁ main) where
+module _ (text code values : List ℕ) (words : ℕ) (f : Formed text code values words) (code₁ values₁ : List ℕ) (main : Option ℕ) (reads : heads.Reads text code values code₁ values₁ main) where
   abbrev W : List Word
   W = words_in text
 
@@ -230,10 +223,10 @@ module _ (text code values : List ℕ) (words : ℕ) (f : Formed text code value
     says q e = subst (λ (x : Walked). SaysModule data-stand code₂ values₂ x) e (declares.is data-stand)
 
     -- a fault in them
-    pub data-found : (number word : ℕ) → d ≡ variants.Faulty number word → length code₂ ≡ length code₁ → length values₂ ≡ length values₁ → Walks text code values (Faulty number word) code₂ values₂
+    pub data-found : (broken : Breach) → d ≡ Err broken → length code₂ ≡ length code₁ → length values₂ ≡ length values₁ → Walks text code values (Err broken) code₂ values₂
     unfolding SaysModule data-stand module_data filling Finds
-    data-found number word e a b = record {
-      finds = any-module (Faulty number word) code₂ values₂ (found-in-module W m stands.form (subst (First (record { number = number; at = word })) (sym (data-left W (module_filling W known) m.declared no_data refl)) (says _ e)));
+    data-found broken e a b = record {
+      finds = any-module (Err broken) code₂ values₂ (found-in-module W m stands.form (subst (First (as_fault broken)) (sym (data-left W (module_filling W known) m.declared no_data refl)) (says _ e)));
       code-long = omega (arith, a, foretold.marked.kept.long);
       values-long = omega (arith, b, foretold.filled.long);
     }
@@ -241,7 +234,7 @@ module _ (text code values : List ℕ) (words : ℕ) (f : Formed text code value
     pub one_less : 1 ≤ words
     one_less = omega (arith, f.laid.many, all_words)
 
-    module _ (at : ℕ) (own : Scope) (e : d ≡ variants.Upto at own) where
+    module _ (at : ℕ) (own : Scope) (e : d ≡ Ok (at, own)) where
       filled : ModuleFilled data-stand code₂ values₂ at own.used
       unfolding SaysModule
       filled = says _ e
@@ -276,18 +269,18 @@ module _ (text code values : List ℕ) (words : ℕ) (f : Formed text code value
         routines-say q u = subst (λ (x : Walked). SaysRoutines (routines-stand long) code₃ values₃ x) u (walk.is (routines-stand long))
 
         -- a fault in the routines
-        pub routines-found : (number word : ℕ) → r ≡ variants.Faulty number word → Walks text code values (Faulty number word) code₃ values₃
+        pub routines-found : (broken : Breach) → r ≡ Err broken → Walks text code values (Err broken) code₃ values₃
         unfolding SaysRoutines routines-stand Finds
-        routines-found number word u = record { finds = any-module (Faulty number word) code₃ values₃ (routines-say _ u); code-long = code-long₃; values-long = values-long₃ }
+        routines-found broken u = record { finds = any-module (Err broken) code₃ values₃ (routines-say _ u); code-long = code-long₃; values-long = values-long₃ }
 
-        module _ (n : ℕ) (all : Scope) (u : r ≡ variants.Upto n all) where
+        module _ (n : ℕ) (all : Scope) (u : r ≡ Ok (n, all)) where
           walked : RoutinesDone (routines-stand long) code₃ values₃
           unfolding SaysRoutines
           walked = routines-say _ u
 
-          pub main-none : main ≡ 0 → Walks text code values NoMain code₃ values₃
+          main-none : main ≡ None → Walks text code values (Ok (all.used, None)) code₃ values₃
           unfolding walked routines-stand Finds
-          main-none z = record { finds = any-module NoMain code₃ values₃ (record { clear = walked.clear; main-is = foretold.main.missing z }); code-long = code-long₃; values-long = values-long₃ }
+          main-none z = record { finds = any-module (Ok (all.used, None)) code₃ values₃ (record { clear = walked.clear; main-is = foretold.main.missing z }); code-long = code-long₃; values-long = values-long₃ }
 
           starts : at ≡ stands.form.begin
           unfolding filled data-stand
@@ -297,13 +290,13 @@ module _ (text code values : List ℕ) (words : ℕ) (f : Formed text code value
           unfolding filled data-stand module_data filling
           count-words = filled.used-is
 
-          main-so : (main ≡ 0 → ⊥) → Walks text code values (Main own.used main) code₃ values₃
+          main-so : (h : ℕ) → main ≡ Some h → Walks text code values (Ok (own.used, Some h)) code₃ values₃
           unfolding walked routines-stand Finds ground_of main_of
-          main-so z =
+          main-so h z =
               let x = walked in
-              let k = numbered R main in
+              let k = numbered R h in
               record {
-                finds = any-module (Main own.used main) code₃ values₃ (record {
+                finds = any-module (Ok (own.used, Some h)) code₃ values₃ (record {
                   clear = x.clear;
                   g = ground_of text W m;
                   text-is = refl;
@@ -311,10 +304,10 @@ module _ (text code values : List ℕ) (words : ℕ) (f : Formed text code value
                   heads-are = refl;
                   offset-is = offset-same text;
                   number = k;
-                  main-is = foretold.main.found z;
-                  there = foretold.main.inside z;
-                  begins = foretold.main.begins z;
-                  alone = alone_of W (cells_of code₁) R (signatures W m 0 m.routines) foretold.heads _ k (foretold.main.found z) (foretold.main.inside z);
+                  main-is = foretold.main.found h z;
+                  there = foretold.main.inside h z;
+                  begins = foretold.main.begins h z;
+                  alone = alone_of W (cells_of code₁) R (signatures W m 0 m.routines) foretold.heads _ k (foretold.main.found h z) (foretold.main.inside h z);
                   raw = record {
                     begin = at;
                     end = words - 1;
@@ -332,8 +325,12 @@ module _ (text code values : List ℕ) (words : ℕ) (f : Formed text code value
               }
 
           -- the module's words are counted in the scope that comes back
-          pub main_some : (main ≡ 0 → ⊥) → all ≡ own → Walks text code values (Main all.used main) code₃ values₃
-          main_some z same = subst (λ (s : Scope). Walks text code values (Main s.used main) code₃ values₃) (sym same) (main-so z)
+          pub module-found : all ≡ own → Walks text code values (Ok (all.used, main)) code₃ values₃
+          module-found same = go main refl
+            where
+              go : (x : Option ℕ) → main ≡ x → Walks text code values (Ok (all.used, x)) code₃ values₃
+              go None z = main-none z
+              go (Some h) z = subst (λ (t : Scope). Walks text code values (Ok (t.used, Some h)) code₃ values₃) (sym same) (main-so h z)
 
 -- ---- the module's scope
 module _ (s : Scope) (e : s ≡ module_scope) where

@@ -1,63 +1,57 @@
 -- The passes: one law for each place where one of them returns.
 use mathlib.Core.Path.{◌≡◌, refl, sym, ap, ap₂, subst, fun_ext, ◌∙◌}
-use mathlib.Core.Bool.{Bool, true, false}
-use mathlib.Core.List.{List, [], ◌∷◌, ◌++◌, map}
-use mathlib.Core.Option.{Option, none, some}
-use Prim.Native.Nat.{ℕ, ◌+◌, ◌-◌, ◌*◌, ◌%◌, ◌<◌, ◌≤◌}
+use mathlib.Core.List.{List, [], ◌++◌, map}
+use mathlib.Core.Option as math
+use mathlib.Core.Option.{none, some}
+use Prim.Native.Nat.{ℕ, ◌+◌, ◌-◌, ◌*◌, ◌<◌, ◌≤◌}
 use native.Mathlib.Omega.{arith}
-use lib.Dec.{eqb, ltb}
+use lib.Dec.{ltb}
 use lib.ListN.{length, get_or, take, drop, replicate, get_or-eq_default}
 use lib.Seq.{take_all, drop-length}
-use lib.IntN.{ℤ}
 use mir.Syntax.{w32}
 use mir.Val.{to_z}
 use borrow.Author.Tests.{ltb-true, ltb-false}
 use Rattle.laws.proofs.Tests.{test, apart}
-use Rattle.std.specs.Prelude.{if◌then◌else◌}
+use Rattle.std.specs.Prelude.{Some, None, Result, Ok, Err}
 use Rattle.paper.specs.Words.{Word, Refusal, reading, word_limit}
 use Rattle.paper.specs.Trees.{Module}
 use Rattle.paper.specs.Expressions.{Parsed, got, no}
 use Rattle.paper.specs.Form.{formed}
 use Rattle.paper.specs.Names.{no_word, nth, sort_in}
-use Rattle.paper.specs.Types.{Fault, least}
+use Rattle.paper.specs.Types.{Fault}
 use Rattle.paper.specs.Declarations.{module_data}
-use Rattle.paper.specs.Checks.{faults, main_of}
+use Rattle.paper.specs.Checks.{faults}
 use Rattle.paper.specs.Steps.{Program, program_of}
-use Rattle.paper.specs.Answer.{Accepted, Verdict, refused_by, accepted, refuse, offset_of, judge_main, judge_module, judge_form, judge_reading, verdict, store_words}
+use Rattle.paper.specs.Answer.{Verdict, refused_by, accepted, refuse, offset_of, judge_main, judge_module, judge_form, judge_reading, verdict, store_words}
 use Rattle.store_cells.specs.Cells.{cells_of, Cleared}
 use Rattle.store_cells.proofs.Laws.{words_take}
 use Rattle.store_cells.proofs.Kept.{clear-length, clear-take, clear_in}
-use Rattle.code.specs.Steps.{Head, no_head}
 use Rattle.code.specs.Holds.{Holds}
 use Rattle.text_offsets.specs.Offsets.{Offset}
-use Rattle.check_form.specs.declared.Verdict as form
-use Rattle.check_form.specs.declared.Verdict.TheVariants as formal
 use Rattle.check_form.specs.Places.{Lent, sorts_in}
+use Rattle.check_form.specs.Judged as form
 use Rattle.check_form.specs.Judged.{Judged, outcome}
-use Rattle.check_load.specs.declared.Loaded.{Loaded}
-use Rattle.check_load.specs.declared.Loaded.TheVariants as loaded
 use Rattle.check_load.specs.Layout.{words_in}
-use Rattle.check_load.specs.Loads.{Loads, answer_of}
+use Rattle.check_load.specs.Loads.{Loaded, Loads, answer_of}
 use Rattle.check_load.specs.Loads as loading
 use Rattle.check_load.proofs.Bounds.{reading-most}
 use Rattle.check_load.proofs.Results.{loads-sorts}
-use Rattle.faults.specs.First.{First}
 use Rattle.faults.proofs.First.{least-none, least_first}
 use Rattle.check_links.specs.Resolved.{Resolved}
-use Rattle.check_links.specs.Raw.{Ground}
-use Rattle.check_program.specs.Routines.{RawModule}
 use Rattle.check_program.proofs.ProgramHeld.{module-holds}
 use Rattle.check_heads.specs.Trees.{heads_for}
 use Rattle.grammar.proofs.Reading.{formed-parses}
 use Rattle.check_whole.proofs.Loaded.{module-words}
 use Rattle.check_whole.proofs.Places.{offsets-same}
-use Rattle.check_whole.specs.declared.Checked.{Checked}
-use Rattle.check_whole.specs.declared.Checked.TheVariants as checked
-use Rattle.check_whole.specs.declared.Found.{Found}
-use Rattle.check_whole.specs.declared.Found.TheVariants.{Main, NoMain, Faulty}
-use Rattle.check_whole.specs.Checks.{store_bytes, heads_in, Ready, Refused, Emptied, Judges}
-use Rattle.check_whole.specs.Walks.{Laid, Formed, Named, Nameless, Finds, Walks}
-use Rattle.check_whole.specs.Passes.{Whole, Clean, Turned, Settles, Formal}
+use Rattle.layout.specs.Broken.{number_of, as_fault}
+use Rattle.layout.specs.declared.rules.Breach.{Breach}
+use Rattle.layout.specs.declared.rules.Rule.TheVariants.{NoMain}
+use Rattle.text_words.specs.declared.Refusal as refusals
+use Rattle.text_words.specs.Answers.{as_refusal, told}
+use Rattle.check_whole.specs.declared.Accepted as answers
+use Rattle.check_whole.specs.Checks.{Checked, store_bytes, heads_in, Emptied, Judges}
+use Rattle.check_whole.specs.Walks.{Found, Laid, Formed, Named, Nameless, Finds, Walks}
+use Rattle.check_whole.specs.Passes.{Whole, Clean, Settles, Formal}
 use Rattle.layout.specs.Rules.{no_main}
 use Rattle.code.specs.Cells.{op_in}
 
@@ -99,22 +93,22 @@ module _ (text code values : List ℕ) (words : ℕ) (f : Formed text code value
   pub words-fit : words * 8 ≤ length code'
   words-fit = omega (arith, words-few text code values words f.laid, w.code-long, f.laid.code-room)
 
-  pub names-refused : (number at o : ℕ) → r ≡ Faulty number at → Offset text at o → Formal text code values (checked.Refused number o) code' values'
+  pub names-refused : (broken : Breach) (t : refusals.Refusal) → r ≡ Err broken → (t.rule ≡ broken.rule) × Offset text broken.word t.place → Formal text code values (Err t) code' values'
   unfolding judge_form judge_module Settles Finds
-  names-refused number at o e p =
-      let v : judge_form text (words_in text) (formed (sort_in (words_in text))) ≡ refuse number (offset_of text (words_in text) at)
-      = ap (judge_form text (words_in text)) f.form ∙ ap (judge_module text (words_in text) f.m) (least_first (record { number = number; at = at }) (faults (words_in text) f.m) (finds _ e)) in
-      rw v (record { answer = ap (checked.Refused number) p; code-long = w.code-long; values-long = w.values-long })
+  names-refused broken t e p =
+      let v : judge_form text (words_in text) (formed (sort_in (words_in text))) ≡ refuse (number_of broken.rule) (offset_of text (words_in text) broken.word)
+      = ap (judge_form text (words_in text)) f.form ∙ ap (judge_module text (words_in text) f.m) (least_first (as_fault broken) (faults (words_in text) f.m) (finds _ e)) in
+      rw v (record { answer = record { refusal = t; answer = refl; number-is = ap number_of p.0; offset-is = p.1 }; code-long = w.code-long; values-long = w.values-long })
 
-  pub main-missing : r ≡ NoMain → Formal text code values (checked.Refused no_main 0) code' values'
+  pub main-missing : (count : ℕ) → r ≡ Ok (count, None) → Formal text code values (Err (record { rule = NoMain; place = 0 })) code' values'
   unfolding judge_form judge_module judge_main Settles Finds
-  main-missing e =
+  main-missing count e =
       let n : Nameless text f.m = finds _ e in
       let v : judge_form text (words_in text) (formed (sort_in (words_in text))) ≡ refuse no_main 0
       = ap (judge_form text (words_in text)) f.form ∙ ap (judge_module text (words_in text) f.m) (least-none (faults (words_in text) f.m) n.clear) ∙ ap (judge_main (words_in text) f.m) n.main-is in
-      rw v (record { answer = refl; code-long = w.code-long; values-long = w.values-long })
+      rw v (record { answer = record { refusal = record { rule = NoMain; place = 0 }; answer = refl; number-is = refl; offset-is = refl }; code-long = w.code-long; values-long = w.values-long })
 
-  module _ (count main : ℕ) (e : r ≡ Main count main) where
+  module _ (count main : ℕ) (e : r ≡ Ok (count, Some main)) where
     named : Named text f.m count main code' values'
     unfolding Finds
     named = finds _ e
@@ -160,7 +154,11 @@ module _ (text code values : List ℕ) (words : ℕ) (f : Formed text code value
       words-here =
           ap (map (to_z w32)) (sym (words_take count values'') ∙ ap cells_of (clear-take cleared count_fits (count * 4) (omega arith)) ∙ words_take count values') ∙ named.values-are
 
-      pub names-accepted : Formal text code values (checked.Accepted words count main) code'' values''
+      -- the answer, by its parts
+      abbrev counted : (n d h : ℕ) → Checked
+      counted n d h = Ok (record { words = n; count = d; main = h })
+
+      pub names-accepted : Formal text code values (counted words count main) code'' values''
       unfolding judge_form judge_module judge_main Settles program_of
       names-accepted =
           let n = named in
@@ -169,7 +167,7 @@ module _ (text code values : List ℕ) (words : ℕ) (f : Formed text code value
           rw v (record {
             R = n.g.R;
             heads-are = n.heads-are ∙ sym heads-here;
-            answer = ap₂ (λ (a b : ℕ). checked.Accepted a b main) f.laid.many n.count-is ∙ ap (λ (x : ℕ). checked.Accepted (length W) (length (module_data W f.m).words) x) (sym n.begins);
+            answer = ap₂ (λ (a b : ℕ). counted a b main) f.laid.many n.count-is ∙ ap (counted (length W) (length (module_data W f.m).words)) (sym n.begins);
             holds = holds-here;
             there = n.there;
             alone = n.alone;
@@ -205,28 +203,36 @@ module _ (text code values : List ℕ) (words : ℕ) (l : Laid text code values 
           (λ t. rw (t, sorts_in) (ap (λ (k : ℕ). op_in (get_or (cells_of code) k 0)) (omega arith) ∙ loads-sorts text l.code₀ l.values₀ l.answer code values l.loads i (omega (arith, ltb-true i words t, l.many))))
           (λ t. rw (t, sorts_in) (sym (nothing-behind i (omega (arith, ltb-false i words t, l.many)))))
 
-  module _ (r : form.Verdict) (j : Judged code words r) where
-    judged-so : r ≡ outcome (formed (sort_in (words_in text)))
+  module _ (r : Result (Unit {0}) Breach) (j : Judged code words r) where
+    judged-so : form.told r ≡ outcome (formed (sort_in (words_in text)))
     judged-so = j ∙ ap (λ (s : ℕ → ℕ). outcome (formed s)) same-sorts
 
-    pub form-refused : (number at o : ℕ) → r ≡ formal.Refused number at → Offset text at o → Formal text code values (checked.Refused number o) code values
+    pub form-refused : (broken : Breach) (t : refusals.Refusal) → r ≡ Err broken → (t.rule ≡ broken.rule) × Offset text broken.word t.place → Formal text code values (Err t) code values
     unfolding judge_form Settles
-    form-refused number at o e p = go (formed (sort_in (words_in text))) refl
+    form-refused broken t e p = go (formed (sort_in (words_in text))) refl
       where
-        go : (x : Parsed Module) → formed (sort_in (words_in text)) ≡ x → Settles text code values (judge_form text (words_in text) (formed (sort_in (words_in text)))) (checked.Refused number o) code values
-        go (got m) q = let s : r ≡ formal.Formed = judged-so ∙ ap outcome q in apart (cc)
+        go : (x : Parsed Module) → formed (sort_in (words_in text)) ≡ x → Settles text code values (judge_form text (words_in text) (formed (sort_in (words_in text)))) (Err t) code values
+        go (got m) q = let s : form.told (Err broken) ≡ outcome (got m) = sym (ap form.told e) ∙ judged-so ∙ ap outcome q in apart (cc)
         go (no k i) q =
-            let same : formal.Refused k i ≡ formal.Refused number at = sym (judged-so ∙ ap outcome q) ∙ e in
-            let a : k ≡ number = cc in
-            let b : i ≡ at = cc in
-            rw (q) (record { answer = ap₂ checked.Refused (sym a) (p ∙ ap (offset_of text (words_in text)) (sym b)); code-long = refl; values-long = refl })
+            let s : form.told (Err broken) ≡ outcome (no k i) = sym (ap form.told e) ∙ judged-so ∙ ap outcome q in
+            let h : as_fault broken ≡ record { number = k; at = i } = cc in
+            rw (q) (record {
+              answer = record {
+                refusal = t;
+                answer = refl;
+                number-is = ap number_of p.0 ∙ ap (λ (x : Fault). x.number) h;
+                offset-is = p.1 ∙ ap (λ (x : Fault). offset_of text (words_in text) x.at) h;
+              };
+              code-long = refl;
+              values-long = refl;
+            })
 
-    pub form-right : r ≡ formal.Formed → Formed text code values words
-    form-right e = go (formed (sort_in (words_in text))) refl
+    pub form-right : (u : Unit {0}) → r ≡ Ok u → Formed text code values words
+    form-right u e = go (formed (sort_in (words_in text))) refl
       where
         go : (x : Parsed Module) → formed (sort_in (words_in text)) ≡ x → Formed text code values words
         go (got m) q = record { laid = l; m = m; form = q }
-        go (no k i) q = let s : r ≡ formal.Refused k i = judged-so ∙ ap outcome q in apart (cc)
+        go (no k i) q = let s : form.told (Ok u) ≡ outcome (no k i) = sym (ap form.told e) ∙ judged-so ∙ ap outcome q in apart (cc)
 
 -- ---- the loading
 module _ (text code values : List ℕ) (c : Clean code values) where
@@ -234,7 +240,7 @@ module _ (text code values : List ℕ) (c : Clean code values) where
   cells-ready = record { code-room = omega (arith, c.whole.code-room); values-room = omega (arith, c.whole.values-room); clean = c.zeros }
 
   module _ (r : Loaded) (code' values' : List ℕ) (h : Loads text code values r code' values') where
-    pub words-laid : (words : ℕ) → r ≡ loaded.Words words → Laid text code' values' words
+    pub words-laid : (words : ℕ) → r ≡ Ok words → Laid text code' values' words
     words-laid words e = record {
       code₀ = code;
       values₀ = values;
@@ -245,31 +251,37 @@ module _ (text code values : List ℕ) (c : Clean code values) where
       values-room = h.keeping.values-size ∙ c.whole.values-room;
     }
       where
-        go : (x : Option Refusal) → r ≡ answer_of (length (words_in text)) x → words ≡ length (words_in text)
-        go none q = cc
-        go (some f) q = apart (cc)
+        go : (x : math.Option Refusal) → told r ≡ answer_of (length (words_in text)) x → words ≡ length (words_in text)
+        go none q = let s : told (Ok words) ≡ answer_of (length (words_in text)) none = sym (ap told e) ∙ q in cc
+        go (some f) q = let s : told (Ok words) ≡ answer_of (length (words_in text)) (some f) = sym (ap told e) ∙ q in apart (cc)
 
-    pub text-refused : (number place : ℕ) → r ≡ loaded.Refused number place → Settles text code values (verdict text) (checked.Refused number place) code' values'
+    pub text-refused : (t : refusals.Refusal) → r ≡ Err t → Settles text code values (verdict text) (Err t) code' values'
     unfolding verdict judge_reading Settles
-    text-refused number place e = go (reading text).refusal refl
+    text-refused t e = go (reading text).refusal refl
       where
-        go : (x : Option Refusal) → (reading text).refusal ≡ x → Settles text code values (verdict text) (checked.Refused number place) code' values'
-        go none q = let s : r ≡ loaded.Words (length (words_in text)) = h.answer ∙ ap (answer_of (length (words_in text))) q in apart (cc)
-        go (some f) q =
-            let s : r ≡ loaded.Refused f.number f.offset = h.answer ∙ ap (answer_of (length (words_in text))) q in
-            let a : number ≡ f.number = cc in
-            let b : place ≡ f.offset = cc in
-            rw (q, judge_reading) (record { answer = ap₂ checked.Refused a b; code-long = h.keeping.code-size; values-long = h.keeping.values-size })
+        so : (x : math.Option Refusal) → (reading text).refusal ≡ x → told (Err t) ≡ answer_of (length (words_in text)) x
+        so x q = sym (ap told e) ∙ h.answer ∙ ap (answer_of (length (words_in text))) q
 
-    pub text-read : (words : ℕ) (a : Checked) (code'' values'' : List ℕ) → r ≡ loaded.Words words → Formal text code' values' a code'' values'' → Settles text code values (verdict text) a code'' values''
+        go : (x : math.Option Refusal) → (reading text).refusal ≡ x → Settles text code values (verdict text) (Err t) code' values'
+        go none q = let s = so none q in apart (cc)
+        go (some f) q =
+            let s = so (some f) q in
+            let a : as_refusal t ≡ f = cc in
+            rw (q, judge_reading) (record {
+              answer = record { refusal = t; answer = refl; number-is = ap (λ (x : Refusal). x.number) a; offset-is = ap (λ (x : Refusal). x.offset) a };
+              code-long = h.keeping.code-size;
+              values-long = h.keeping.values-size;
+            })
+
+    pub text-read : (words : ℕ) (a : Checked) (code'' values'' : List ℕ) → r ≡ Ok words → Formal text code' values' a code'' values'' → Settles text code values (verdict text) a code'' values''
     unfolding verdict judge_reading
     text-read words a code'' values'' e k = go (reading text).refusal refl
       where
-        go : (x : Option Refusal) → (reading text).refusal ≡ x → Settles text code values (verdict text) a code'' values''
+        go : (x : math.Option Refusal) → (reading text).refusal ≡ x → Settles text code values (verdict text) a code'' values''
         go none q =
             let v : verdict text ≡ judge_form text (words_in text) (formed (sort_in (words_in text))) = rw (q, judge_reading) in
             subst (λ (x : Verdict). Settles text code values x a code'' values'') (sym v) (settled_before text code values code' values' c.whole h.keeping.code-size h.keeping.values-size _ a code'' values'' k)
-        go (some f) q = let s : r ≡ loaded.Refused f.number f.offset = h.answer ∙ ap (answer_of (length (words_in text))) q in apart (cc)
+        go (some f) q = let s : told (Ok words) ≡ answer_of (length (words_in text)) (some f) = sym (ap told e) ∙ h.answer ∙ ap (answer_of (length (words_in text))) q in apart (cc)
 
 -- ---- clearing
 module _ (code values values₁ : List ℕ) (w : Whole code values) (z : Cleared values values₁ 0 store_words) where
@@ -286,23 +298,23 @@ module _ (code values values₁ : List ℕ) (w : Whole code values) (z : Cleared
     settled : Settles text code values (verdict text) r code' values'
     settled = settled_before text code values code values₁ w refl still-long (verdict text) r code' values' s
 
-    pub accepted-so : (a b c : ℕ) → r ≡ checked.Accepted a b c → Judges text code values (verdict text) r code' values'
+    pub accepted-so : (a : answers.Accepted) → r ≡ Ok a → Judges text code values (verdict text) (Ok a) code' values'
     unfolding Settles Judges
-    accepted-so a b c e = go (verdict text) settled
+    accepted-so a e = go (verdict text) (subst (λ (x : Checked). Settles text code values (verdict text) x code' values') e settled)
       where
-        go : (v : Verdict) → Settles text code values v r code' values' → Judges text code values v r code' values'
-        go (refused_by f) k = let q = k.answer in apart (cc)
+        go : (v : Verdict) → Settles text code values v (Ok a) code' values' → Judges text code values v (Ok a) code' values'
+        go (refused_by f) k = let q = k.answer.answer in apart (cc)
         go (accepted x) k = k
 
-    pub refused-so : (number offset : ℕ) (code'' values'' : List ℕ) → r ≡ checked.Refused number offset → Cleared code' code'' 0 store_words → Cleared values' values'' 0 store_words
-        → Judges text code values (verdict text) r code'' values''
+    pub refused-so : (t : refusals.Refusal) (code'' values'' : List ℕ) → r ≡ Err t → Cleared code' code'' 0 store_words → Cleared values' values'' 0 store_words
+        → Judges text code values (verdict text) (Err t) code'' values''
     unfolding Settles Judges
-    refused-so number offset code'' values'' e y x = go (verdict text) settled
+    refused-so t code'' values'' e y x = go (verdict text) (subst (λ (x : Checked). Settles text code values (verdict text) x code' values') e settled)
       where
         emptied : (before between after : List ℕ) → length before ≡ store_bytes → length between ≡ store_bytes → Cleared between after 0 store_words → Emptied before after
         emptied before between after a b k = k.bytes ∙ ap (λ (l : List ℕ). replicate store_bytes 0 ++ l) (same-past between before b a)
 
-        go : (v : Verdict) → Settles text code values v r code' values' → Judges text code values v r code'' values''
+        go : (v : Verdict) → Settles text code values v (Err t) code' values' → Judges text code values v (Err t) code'' values''
         go (refused_by f) k = record {
           answer = k.answer;
           code-empty = emptied code code' code'' w.code-room (k.code-long ∙ w.code-room) y;

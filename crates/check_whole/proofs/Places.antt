@@ -1,26 +1,26 @@
 -- The places of a module's steps, and the words that call, are words of the module: how offsets past its last word are counted does not matter.
-use mathlib.Core.Path.{◌≡◌, refl, sym, ap, subst, ◌∙◌}
-use mathlib.Core.List.{List, [], ◌∷◌, ◌++◌, map}
+use mathlib.Core.Path.{◌≡◌, ap, ◌∙◌}
+use mathlib.Core.List.{List, [], ◌++◌, map}
 use mathlib.Core.Option.{Option, none, some}
-use Prim.Native.Nat.{ℕ, zero, suc, ◌+◌, ◌<◌, ◌≤◌}
+use Prim.Native.Nat.{ℕ, zero, suc, ◌<◌, ◌≤◌}
 use native.Mathlib.Omega.{arith}
 use lib.ListN.{length, get_or}
 use Rattle.laws.specs.Options.{WhereSome}
 use Rattle.laws.proofs.Options.{where-both}
 use Rattle.paper.specs.Words.{Word}
 use Rattle.paper.specs.Terms.{Memory}
-use Rattle.paper.specs.Trees.{Expr, Target, Simple, first_simple, assign, assign_call, call, returns, raises, exits, retries, tries_next, writes, reads, Statement, Statements, Arms, Cases, RoutineList, Routine, Module}
+use Rattle.paper.specs.Trees.{Expr, Simple, first_simple, Statement, Statements, Arms, Cases, RoutineList, Routine, Module}
 use Rattle.paper.specs.Names.{Scopes, sort_in}
 use Rattle.paper.specs.Declarations.{module_data}
 use Rattle.paper.specs.Steps.{Action, end_list, end_undo, parts_of, Step, Code, step, action_of, simple_step, steps_of, steps_of_list, steps_of_arms, steps_of_cases, list_steps, optional_steps, code_of, program_of}
 use Rattle.paper.specs.Running.{no_code, code_at}
-use Rattle.code.specs.Steps.{Head, no_head, step_in}
+use Rattle.code.specs.Steps.{Head, no_head}
 use Rattle.code.specs.Closed.{Every, done, also}
 use Rattle.code.specs.Holds.{known, CalleeIn, HoldsRoutine, Holds}
 use Rattle.grammar.specs.Form.{SimpleAt, assigning, assigning-call, calling, returning, raising, exiting, retrying, trying-next, writing, reading}
 use Rattle.grammar.specs.Form.{StatementAt, plain, compact, full, counting, looping, testing, ListAt, ended, begun, ArmsAt, last-arm, more-arms, ElseAt, no-else, an-else, CasesAt, no-more-cases, one-case, DefaultAt, no_default, a-default}
-use Rattle.grammar.specs.Form.{Parses, RepeatedAt, none-starts, one-starts, RoutineListAt, ListBehindAt, no-list, a-list, RoutineAt, RoutinesAt}
-use Rattle.grammar.proofs.Places.{arguments-grow, simple-first, simple-grows, statement-grows, list-grows, arms-grow, else-grows, cases-grow, default-grows, for-head-grows, behind-grows, routines-grow}
+use Rattle.grammar.specs.Form.{Parses, none-starts, one-starts, RoutineListAt, ListBehindAt, no-list, a-list, RoutineAt, RoutinesAt}
+use Rattle.grammar.proofs.Places.{arguments-grow, simple-first, simple-grows, list-grows, arms-grow, else-grows, cases-grow, default-grows, for-head-grows, behind-grows, routines-grow}
 use Rattle.faults.proofs.Expressions.{grows}
 
 -- ---- steps of the first n words

@@ -1,27 +1,24 @@
 -- The walk over the routines, one after another.
 use mathlib.Core.Path.{◌≡◌, refl, sym, ap, subst, ◌∙◌}
-use mathlib.Core.Bool.{Bool, true, false}
 use mathlib.Core.List.{List, [], ◌∷◌, ◌++◌}
 use Prim.Native.Nat.{ℕ, zero, suc, ◌+◌, ◌*◌, ◌-◌, ◌<◌, ◌≤◌}
 use native.Mathlib.Numerals.{add-one}
 use native.Mathlib.Omega.{arith}
-use lib.ListN.{length, get_or, take, drop}
+use lib.ListN.{length, take, drop}
 use lib.Seq.{take_all}
 use mir.Syntax.{w32}
 use mir.Val.{Fits}
 use Rattle.laws.proofs.Tests.{apart}
 use Rattle.paper.specs.Words.{Word}
-use Rattle.paper.specs.Trees.{Routine, Module}
-use Rattle.paper.specs.Expressions.{starts_routine}
+use Rattle.paper.specs.Trees.{Routine}
 use Rattle.paper.specs.Names.{Text, sort_in, spelled}
 use Rattle.paper.specs.Types.{Fault}
-use Rattle.paper.specs.Declarations.{Signature, data_texts, module_data, signatures}
+use Rattle.paper.specs.Declarations.{data_texts, signatures}
 use Rattle.paper.specs.Checks.{faults}
 use Rattle.store_cells.specs.Cells.{cells_of}
 use Rattle.code.specs.Steps.{Head, numbered}
 use Rattle.code.specs.Signatures.{Heads}
-use Rattle.check_names.specs.Promises.{store_bytes}
-use Rattle.grammar.specs.Form.{Parses, RepeatedAt, none-starts, one-starts, RoutineAt, RoutinesAt}
+use Rattle.grammar.specs.Form.{Parses, none-starts, one-starts, RoutineAt, RoutinesAt}
 use Rattle.grammar.proofs.Places.{routine-grows, routines-grow}
 use Rattle.check_load.specs.Layout.{words_in}
 use Rattle.faults.specs.First.{First}
@@ -31,18 +28,19 @@ use Rattle.faults.proofs.Routines.{faults-are, found-in-left, left-on, left_end}
 use Rattle.check_links.specs.Raw.{SameWords}
 use Rattle.check_program.specs.Routines.{RawRoutines, no-routine}
 use Rattle.check_program.proofs.WalkStays.{routines-frame, routines-on}
-use Rattle.check_heads.specs.Trees.{word_of, head_for, heads_for, earlier_of}
+use Rattle.check_heads.specs.Trees.{head_for, heads_for, earlier_of}
 use Rattle.check_heads.proofs.RoutineNumbers.{drop-next, drop_all, word_at, numbered-at}
 use Rattle.check_around.specs.Around.{Unread}
 use Rattle.check_names.specs.declared.Scope.{Scope}
-use Rattle.check_names.specs.Scopes.{BackTo}
+use Rattle.check_names.specs.Scopes.{BackTo, Walked}
 use Rattle.check_names.proofs.Growing.{back-upto}
-use Rattle.check_names.specs.declared.Walked.{Walked}
-use Rattle.check_names.specs.declared.Walked.TheVariants as variants
-use Rattle.check_routines.specs.Answers.{ModuleFilled, ground_of, Spares, Begins, Says, Checks}
+use Rattle.check_routines.specs.Answers.{ModuleFilled, ground_of, Begins, Says, Checks}
 use Rattle.check_whole.specs.Walks.{RoutinesStand, RoutinesDone, SaysRoutines, RoutinesWalk}
 use Rattle.check_whole.proofs.Loaded.{sorts-low, strings-quoted, unread-kept, unread-less}
 use Rattle.check_whole.proofs.Signatures.{calls-kept}
+use Rattle.std.specs.Prelude.{Ok, Err}
+use Rattle.layout.specs.Broken.{as_fault}
+use Rattle.layout.specs.declared.rules.Breach.{Breach}
 
 -- ---- lists
 module _ {A : Type 0} where
@@ -166,11 +164,11 @@ module _ {text code₀ values₀ : List ℕ} {at end : ℕ} (b : RoutinesStand t
     says : (q : Walked) → r ≡ q → Says begins code' values' q
     says q e = subst (λ (x : Walked). Says begins code' values' x) e (c.is begins)
 
-    found : (number word : ℕ) → r ≡ variants.Faulty number word → First (record { number = number; at = word }) (faults W b.m)
+    found : (broken : Breach) → r ≡ Err broken → First (as_fault broken) (faults W b.m)
     unfolding Says begins
-    found number word e = found-in-left W b.m (subst (λ (x : List Routine). Left W b.m (earlier_of W (data_texts W b.m.declared) k rs) k x h end) next.is g.left) next.one next.more (says _ e)
+    found broken e = found-in-left W b.m (subst (λ (x : List Routine). Left W b.m (earlier_of W (data_texts W b.m.declared) k rs) k x h end) next.is g.left) next.one next.more (says _ e)
 
-    going_on : length code' ≡ length code → (n : ℕ) (scope : Scope) → r ≡ variants.Upto n scope → Going b code' values' n (k + 1)
+    going_on : length code' ≡ length code → (n : ℕ) (scope : Scope) → r ≡ Ok (n, scope) → Going b code' values' n (k + 1)
     unfolding Says begins
     going_on kept n scope e =
         let s = says _ e in
@@ -201,20 +199,20 @@ module _ (text code₀ values₀ : List ℕ) (at end : ℕ) (code values : List 
     routine-begins = begins i.stand code values h k i.long (i.going i.stand) l
 
     module _ (code' values' : List ℕ) (r : Walked) (c : Checks text code values code' values' k h r) where
-      pub routine-found : (number word : ℕ) → r ≡ variants.Faulty number word → RoutinesWalk text code₀ values₀ code' values' at end r
+      pub routine-found : (broken : Breach) → r ≡ Err broken → RoutinesWalk text code₀ values₀ code' values' at end (Err broken)
       unfolding SaysRoutines
-      routine-found number word e = record { is = λ b. subst (λ (x : Walked). SaysRoutines b code' values' x) (sym e) (found b code values h k i.long (i.going b) l code' values' r c number word e) }
+      routine-found broken e = record { is = λ b. found b code values h k i.long (i.going b) l code' values' r c broken e }
 
-      pub routine-done : (n : ℕ) (scope : Scope) → r ≡ variants.Upto n scope → length code' ≡ length code → length values' ≡ length values → Invariant text code₀ values₀ at end code' values' n (k + 1)
+      pub routine-done : (n : ℕ) (scope : Scope) → r ≡ Ok (n, scope) → length code' ≡ length code → length values' ≡ length values → Invariant text code₀ values₀ at end code' values' n (k + 1)
       routine-done n scope e q v = record { stand = i.stand; long = q ∙ i.long; values-long = v ∙ i.values-long; going = λ b. going_on b code values h k i.long (i.going b) l code' values' r c q n scope e }
 
-      pub routine-less : (n : ℕ) (scope : Scope) → r ≡ variants.Upto n scope → end - n < end - h
+      pub routine-less : (n : ℕ) (scope : Scope) → r ≡ Ok (n, scope) → end - n < end - h
       unfolding Says begins
       routine-less n scope e =
           let s = says i.stand code values h k i.long (i.going i.stand) l code' values' r c _ e in
           omega (arith, next-on i.stand code values h k i.long (i.going i.stand) l, s.goes.next-is)
 
-  pub routines-done : end ≤ h → (scope : Scope) → RoutinesWalk text code₀ values₀ code values at end (variants.Upto h scope)
+  pub routines-done : end ≤ h → (scope : Scope) → RoutinesWalk text code₀ values₀ code values at end (Ok (h, scope))
   unfolding SaysRoutines
   routines-done l scope = record { is = λ b. done b (i.going b) }
     where
@@ -235,8 +233,5 @@ module _ (outer scope : Scope) (e : scope ≡ outer) where
   no_loop n = ap (λ (s : Scope). s.loops) e ∙ n
 
   module _ (r : Walked) (b : BackTo scope r) where
-    pub back_on : BackTo outer r
-    back_on = subst (λ (s : Scope). BackTo s r) e b
-
-    pub handed-back : (n : ℕ) (left : Scope) → r ≡ variants.Upto n left → left ≡ outer
+    pub handed-back : (n : ℕ) (left : Scope) → r ≡ Ok (n, left) → left ≡ outer
     handed-back n left q = back-upto scope r b n left q ∙ e

@@ -4,27 +4,27 @@ use mathlib.Core.Bool.{Bool, true, false}
 use mathlib.Core.List.{List, [], ◌∷◌, ◌++◌}
 use mathlib.Core.Option.{Option, none, some}
 use mathlib.Core.Logic.{◌⊎◌, inl, inr}
-use Prim.Native.Nat.{ℕ, zero, suc, ◌+◌, ◌*◌, ◌-◌, ◌/◌, ◌%◌, ◌<◌, ◌≤◌}
+use Prim.Native.Nat.{ℕ, zero, suc, ◌+◌, ◌*◌, ◌<◌, ◌≤◌}
 use native.Mathlib.Omega.{arith}
 use lib.Dec.{eqb}
 use lib.ListN.{length, get_or, take, drop, take-append-drop}
-use Rattle.laws.proofs.Tests.{test, false-true}
+use Rattle.laws.proofs.Tests.{false-true}
 use Rattle.std.specs.Prelude.{if◌then◌else◌}
 use Rattle.paper.specs.Sorts.{FUNC}
 use Rattle.paper.specs.Words.{Word}
 use Rattle.paper.specs.Trees.{Parameter, Routine, Module}
 use Rattle.paper.specs.Names.{DataType, sort_in}
 use Rattle.paper.specs.Declarations.{Signature}
-use Rattle.paper.specs.Checks.{is_some, no_signature}
+use Rattle.paper.specs.Checks.{is_some}
 use Rattle.code.specs.Cells.{head_at, op_at, value_at, op_in, value_in}
 use Rattle.code.specs.Steps.{Head, no_head}
-use Rattle.code.specs.Signatures.{type_at, types_at, first_parameter, result_at, head_in, signature_in, SignatureAt, Heads}
+use Rattle.code.specs.Signatures.{types_at, first_parameter, result_at, head_in, signature_in, SignatureAt, Heads}
 use Rattle.code.proofs.Signatures.{type-kept}
-use Rattle.grammar.specs.Form.{Parses, SeparatedAt, last_one, one_more, ClosedAt, closed-at-once, closed-later, RepeatedAt, none-starts, one-starts, ParameterAt, ParametersAt, HeadAt, a-proc, a-func, RoutineAt, RoutinesAt}
-use Rattle.grammar.proofs.Places.{routine-grows, routines-grow, declarations-grow, list-grows, behind-grows}
+use Rattle.grammar.specs.Form.{Parses, SeparatedAt, last_one, one_more, closed-at-once, closed-later, none-starts, one-starts, ParameterAt, ParametersAt, HeadAt, a-proc, a-func, RoutineAt, RoutinesAt}
+use Rattle.grammar.proofs.Places.{routine-grows, declarations-grow, list-grows, behind-grows}
 use Rattle.faults.proofs.Expressions.{grows}
 use Rattle.check_links.specs.Raw.{Ground}
-use Rattle.check_program.specs.Routines.{RawRoutine, RawRoutines, no-routine, a-routine}
+use Rattle.check_program.specs.Routines.{RawRoutines, a-routine}
 use Rattle.check_program.proofs.WalkStays.{routines-order}
 use Rattle.check_heads.specs.Trees.{word_of, head_for, heads_for}
 use Rattle.check_heads.proofs.RoutineNumbers.{word_at}

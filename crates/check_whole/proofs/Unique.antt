@@ -1,9 +1,9 @@
 -- What the promise settles: the answer, the value store whole, every byte past the cells, and of a refused module the code store too. Of an accepted one both code
 -- stores hold the same program with the same routines; cells that no run reads may differ.
-use mathlib.Core.Path.{◌≡◌, refl, sym, ap, subst, ◌∙◌}
+use mathlib.Core.Path.{◌≡◌, refl, sym, ap, ap₂, subst, ◌∙◌}
 use mathlib.Core.Bool.{Bool, true, false, ◌||◌}
 use mathlib.Core.List.{List, map}
-use Prim.Native.Nat.{ℕ, ◌*◌, ◌<◌, ◌≤◌}
+use Prim.Native.Nat.{ℕ, ◌<◌, ◌≤◌}
 use native.Mathlib.Omega.{arith}
 use lib.Dec.{ltb}
 use lib.IntN.{ℤ}
@@ -20,9 +20,12 @@ use Rattle.store_cells.proofs.Laws.{Bytes, words_small}
 use Rattle.code.specs.Steps.{Head, no_head}
 use Rattle.code.specs.Holds.{Holds}
 use Rattle.check_load.proofs.Unique.{same_store}
-use Rattle.check_whole.specs.declared.Checked.{Checked}
-use Rattle.check_whole.specs.declared.Checked.TheVariants as checked
-use Rattle.check_whole.specs.Checks.{store_bytes, heads_in, Ready, Judges, TooSmall, Checks}
+use Rattle.check_whole.specs.Checks.{store_bytes, heads_in, Ready, Judges, TooSmall, Checks, Checked, Refuses}
+use Rattle.std.specs.Prelude.{Ok, Err}
+use Rattle.text_words.specs.declared.Refusal.{Refusal}
+use Rattle.layout.specs.declared.rules.Rule.{Rule}
+use Rattle.paper.specs.Words as paper
+use Rattle.layout.proofs.RuleNumbers.{number-injective}
 
 -- both stores hold the program that the paper has of the text
 pub record OneProgram (text c d : List ℕ) : Type 0 where
@@ -32,8 +35,8 @@ pub record OneProgram (text c d : List ℕ) : Type 0 where
   pub second : Holds text (heads_in a.words) (offset_of text a.words) (cells_of (take store_bytes d)) a.program
 
 unfoldable pub SameCode : (text : List ℕ) → Checked → (c d : List ℕ) → Type 0
-SameCode text (checked.Refused number offset) c d = c ≡ d
-SameCode text (checked.Accepted n words main) c d = OneProgram text c d
+SameCode text (Err refusal) c d = c ≡ d
+SameCode text (Ok a) c d = OneProgram text c d
 
 pub record Same (text : List ℕ) (r s : Checked) (c d v w : List ℕ) : Type 0 where
   pub answer : r ≡ s
@@ -61,7 +64,7 @@ module _ (text code values : List ℕ) (r s : Checked) (c d v w : List ℕ) wher
     ready-answer : r ≡ s
     ready-answer =
         p.answer
-        ∙ ap (λ (R : List Head). checked.Accepted (length a.words) (length a.program.words) (get_or R a.main no_head).word) (p.heads-are ∙ sym q.heads-are)
+        ∙ ap (λ (R : List Head). Ok (record { words = length a.words; count = length a.program.words; main = (get_or R a.main no_head).word })) (p.heads-are ∙ sym q.heads-are)
         ∙ sym q.answer
 
     holding : (R : List Head) (x : List ℕ) → R ≡ heads_in a.words → Holds text R (offset_of text a.words) (cells_of (take store_bytes x)) a.program
@@ -79,23 +82,27 @@ module _ (text code values : List ℕ) (r s : Checked) (c d v w : List ℕ) wher
           (record { a = a; verdict-is = e; first = holding p.R c p.heads-are p.holds; second = holding q.R d q.heads-are q.holds });
     }
 
+  -- a refusal is known by the number of its rule and its offset
+  told-same : {f : paper.Refusal} (p : Refuses f r) (q : Refuses f s) → p.refusal ≡ q.refusal
+  told-same p q = ap₂ (λ (a : Rule) (b : ℕ). record { rule = a; place = b }) (number-injective p.refusal.rule q.refusal.rule (p.number-is ∙ sym q.number-is)) (p.offset-is ∙ sym q.offset-is)
+
   -- a refusal settles all
-  refused-same : (number offset : ℕ) → r ≡ checked.Refused number offset → s ≡ checked.Refused number offset → c ≡ d → v ≡ w → Same text r s c d v w
+  refused-same : (refusal other : Refusal) → r ≡ Err refusal → s ≡ Err other → refusal ≡ other → c ≡ d → v ≡ w → Same text r s c d v w
   unfolding SameCode
-  refused-same number offset p q one other = record {
-    answer = p ∙ sym q;
-    values_same = λ bytes others. other;
+  refused-same refusal other p q same one both = record {
+    answer = p ∙ ap Err same ∙ sym q;
+    values_same = λ bytes others. both;
     code-past = ap (drop store_bytes) one;
     code-long = ap length one;
     code_same = subst (λ (x : Checked). SameCode text x c d) (sym p) one;
   }
 
   small_same : TooSmall code values r c v → TooSmall code values s d w → Same text r s c d v w
-  small_same p q = refused-same 1 0 p.answer q.answer (p.code_same ∙ sym q.code_same) (p.values_same ∙ sym q.values_same)
+  small_same p q = refused-same _ _ p.answer q.answer refl (p.code_same ∙ sym q.code_same) (p.values_same ∙ sym q.values_same)
 
   judged-same : store_bytes ≤ length values → (x : Verdict) → verdict text ≡ x → Judges text code values x r c v → Judges text code values x s d w → Same text r s c d v w
   unfolding Judges
-  judged-same room (refused_by f) e p q = refused-same f.number f.offset p.answer q.answer (p.code-empty ∙ sym q.code-empty) (p.values-empty ∙ sym q.values-empty)
+  judged-same room (refused_by f) e p q = refused-same p.answer.refusal q.answer.refusal p.answer.answer q.answer.answer (told-same p.answer q.answer) (p.code-empty ∙ sym q.code-empty) (p.values-empty ∙ sym q.values-empty)
   judged-same room (accepted a) e p q = ready-same room a p q e
 
   pub check-unique : Checks text code values r c v → Checks text code values s d w → Same text r s c d v w

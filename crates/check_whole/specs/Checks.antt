@@ -1,5 +1,5 @@
 -- What the check of a module promises: the paper's verdict, and every lent word after it.
-use Rattle.std.specs.Prelude.{◌≡◌, true, false, ◌||◌, List, [], ◌++◌, map, ℕ, ◌<◌, ◌≤◌, ltb, length, get_or, take, drop, replicate}
+use Rattle.std.specs.Prelude.{◌≡◌, true, false, ◌||◌, List, [], ◌++◌, map, ℕ, ◌<◌, ◌≤◌, ltb, length, get_or, take, drop, replicate, Result, Ok, Err}
 use Rattle.std.specs.Int.{w32}
 use Rattle.std.proofs.Common.{to_z}
 use Rattle.paper.specs.Words.{Word, Refusal}
@@ -11,8 +11,14 @@ use Rattle.store_cells.specs.Cells.{cells_of}
 use Rattle.code.specs.Steps.{Head, no_head}
 use Rattle.code.specs.Holds.{Holds}
 use Rattle.check_heads.specs.Trees.{heads_for}
-use Rattle.check_whole.specs.declared.Checked.{Checked}
-use Rattle.check_whole.specs.declared.Checked.TheVariants as checked
+use Rattle.layout.specs.Broken.{number_of}
+use Rattle.layout.specs.declared.rules.Rule.TheVariants.{SmallStore}
+use Rattle.text_words.specs.declared.Refusal as refusals
+use Rattle.check_whole.specs.declared.Accepted as answers
+
+-- what the check of a module answers
+abbrev pub Checked : Type 0
+Checked = Result answers.Accepted refusals.Refusal
 
 -- "16,384 words" of four bytes
 abbrev pub store_bytes : ℕ
@@ -30,7 +36,7 @@ heads_in W = elim (formed (sort_in W)) [ got m ↦ heads_for m.routines | no num
 pub record Ready (text code values : List ℕ) (a : Accepted) (r : Checked) (code' values' : List ℕ) : Type 0 where
   pub R : List Head
   pub heads-are : R ≡ heads_in a.words
-  pub answer : r ≡ checked.Accepted (length a.words) (length a.program.words) (get_or R a.main no_head).word
+  pub answer : r ≡ Ok (record { words = length a.words; count = length a.program.words; main = (get_or R a.main no_head).word })
   pub holds : Holds text R (offset_of text a.words) (cells_of (take store_bytes code')) a.program
   pub there : a.main < length R
   pub alone : (get_or R a.main no_head).parameters ≡ 0
@@ -41,8 +47,15 @@ pub record Ready (text code values : List ℕ) (a : Accepted) (r : Checked) (cod
   pub code-long : length code' ≡ length code
   pub values-long : length values' ≡ length values
 
+-- The answer is this refusal: the number of the rule broken, and its offset.
+pub record Refuses (f : Refusal) (r : Checked) : Type 0 where
+  pub refusal : refusals.Refusal
+  pub answer : r ≡ Err refusal
+  pub number-is : number_of refusal.rule ≡ f.number
+  pub offset-is : refusal.place ≡ f.offset
+
 pub record Refused (code values : List ℕ) (f : Refusal) (r : Checked) (code' values' : List ℕ) : Type 0 where
-  pub answer : r ≡ checked.Refused f.number f.offset
+  pub answer : Refuses f r
   pub code-empty : Emptied code code'
   pub values-empty : Emptied values values'
 
@@ -52,7 +65,7 @@ Judges text code values (accepted a) r code' values' = Ready text code values a 
 
 -- "1: a store under 16,384 words"
 pub record TooSmall (code values : List ℕ) (r : Checked) (code' values' : List ℕ) : Type 0 where
-  pub answer : r ≡ checked.Refused 1 0
+  pub answer : r ≡ Err (record { rule = SmallStore; place = 0 })
   pub code_same : code' ≡ code
   pub values_same : values' ≡ values
 

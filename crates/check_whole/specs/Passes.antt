@@ -1,14 +1,12 @@
 -- The passes of the check, one after another, on stores that are no longer than their cells. A pass that refuses leaves clearing to the function above them.
 use Rattle.std.specs.Prelude.{◌≡◌, List, ℕ, ◌<◌, length, get_or}
-use Rattle.paper.specs.Words.{Refusal, reading}
+use Rattle.paper.specs.Words.{Refusal}
 use Rattle.paper.specs.Names.{sort_in}
 use Rattle.paper.specs.Form.{formed}
-use Rattle.paper.specs.Answer.{Verdict, refused_by, accepted, judge_form, verdict}
+use Rattle.paper.specs.Answer.{Verdict, refused_by, accepted, judge_form}
 use Rattle.store_cells.specs.Cells.{cells_of}
 use Rattle.check_load.specs.Layout.{words_in}
-use Rattle.check_whole.specs.declared.Checked.{Checked}
-use Rattle.check_whole.specs.declared.Checked.TheVariants as checked
-use Rattle.check_whole.specs.Checks.{store_bytes, Ready, Judges}
+use Rattle.check_whole.specs.Checks.{Checked, store_bytes, Ready, Refuses}
 
 -- what is lent to the passes
 pub record Whole (code values : List ℕ) : Type 0 where
@@ -22,7 +20,7 @@ pub record Clean (code values : List ℕ) : Type 0 where
 
 -- a refusal before clearing
 pub record Turned (code values : List ℕ) (f : Refusal) (r : Checked) (code' values' : List ℕ) : Type 0 where
-  pub answer : r ≡ checked.Refused f.number f.offset
+  pub answer : Refuses f r
   pub code-long : length code' ≡ length code
   pub values-long : length values' ≡ length values
 

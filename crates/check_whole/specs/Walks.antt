@@ -1,22 +1,20 @@
 -- What the check of a module's names and types promises: the first fault, or all that resolving needs to make the paper's program of the cells.
-use Rattle.std.specs.Prelude.{◌≡◌, List, [], map, ℕ, ◌<◌, ◌≤◌, length, get_or, take}
-use Rattle.std.proofs.Math.Option.{Option, none, some}
+use Rattle.std.specs.Prelude.{◌≡◌, List, [], map, ℕ, ◌<◌, ◌≤◌, length, get_or, take, Option, None, Some, Result, Ok, Err}
+use Rattle.std.proofs.Math.Option.{none, some}
 use Rattle.std.specs.Int.{w32}
 use Rattle.std.proofs.Common.{to_z}
 use Rattle.paper.specs.Trees.{Module}
 use Rattle.paper.specs.Expressions.{got}
 use Rattle.paper.specs.Form.{formed}
 use Rattle.paper.specs.Names.{sort_in}
-use Rattle.paper.specs.Types.{Fault}
 use Rattle.paper.specs.Declarations.{module_data, signatures}
 use Rattle.paper.specs.Checks.{faults, main_of}
 use Rattle.paper.specs.Answer.{offset_of}
 use Rattle.store_cells.specs.Cells.{cells_of}
 use Rattle.code.specs.Steps.{no_head}
 use Rattle.check_names.specs.Promises.{store_bytes}
-use Rattle.check_load.specs.declared.Loaded.{Loaded}
 use Rattle.check_load.specs.Layout.{words_in}
-use Rattle.check_load.specs.Loads.{Loads}
+use Rattle.check_load.specs.Loads.{Loaded, Loads}
 use Rattle.faults.specs.First.{First}
 use Rattle.check_links.specs.Raw.{Ground}
 use Rattle.check_program.specs.Routines.{RawRoutines, RawModule}
@@ -24,12 +22,14 @@ use Rattle.code.specs.Signatures.{Heads}
 use Rattle.grammar.specs.Form.{Parses, RoutinesAt}
 use Rattle.check_heads.specs.Trees.{heads_for}
 use Rattle.check_around.specs.Around.{Unread}
-use Rattle.check_names.specs.declared.Walked.{Walked}
-use Rattle.check_names.specs.declared.Walked.TheVariants.{Upto}
-use Rattle.check_names.specs.declared.Walked.TheVariants as variants
+use Rattle.layout.specs.Broken.{as_fault}
+use Rattle.layout.specs.declared.rules.Breach.{Breach}
+use Rattle.check_names.specs.Scopes.{Walked}
 use Rattle.check_routines.specs.Answers.{ModuleFilled, ground_of}
-use Rattle.check_whole.specs.declared.Found.{Found}
-use Rattle.check_whole.specs.declared.Found.TheVariants.{Main, NoMain, Faulty}
+
+-- what the walk over the names and types answers: how many words of data the module has, and the word that main begins with, if there is one; or the rule broken, and its word
+abbrev pub Found : Type 0
+Found = Result (ℕ × Option ℕ) Breach
 
 -- Both stores, which are no longer than their cells, are as loading left them.
 pub record Laid (text code values : List ℕ) (words : ℕ) : Type 0 where
@@ -71,9 +71,9 @@ pub record Nameless (text : List ℕ) (m : Module) : Type 0 where
 
 -- by the answer
 unfoldable pub Finds : (text : List ℕ) (m : Module) → Found → (code' values' : List ℕ) → Type 0
-Finds text m (Main count main) code' values' = Named text m count main code' values'
-Finds text m NoMain code' values' = Nameless text m
-Finds text m (Faulty number at) code' values' = First (record { number = number; at = at }) (faults (words_in text) m)
+Finds text m (Ok (count, Some main)) code' values' = Named text m count main code' values'
+Finds text m (Ok (count, None)) code' values' = Nameless text m
+Finds text m (Err broken) code' values' = First (as_fault broken) (faults (words_in text) m)
 
 -- ---- the routines
 -- The module's data are declared, and break no rule; its routines stand from `at` up to the word ENDMODULE, which is `end`.
@@ -93,8 +93,8 @@ pub record RoutinesDone {text code values : List ℕ} {at end : ℕ} (b : Routin
   pub filled : ModuleFilled (words_in text) b.m values'
 
 unfoldable pub SaysRoutines : {text code values : List ℕ} {at end : ℕ} (b : RoutinesStand text code values at end) (code' values' : List ℕ) → Walked → Type 0
-SaysRoutines b code' values' (Upto next scope) = RoutinesDone b code' values'
-SaysRoutines {text = text} b code' values' (variants.Faulty number word) = First (record { number = number; at = word }) (faults (words_in text) b.m)
+SaysRoutines b code' values' (Ok (next, scope)) = RoutinesDone b code' values'
+SaysRoutines {text = text} b code' values' (Err broken) = First (as_fault broken) (faults (words_in text) b.m)
 
 pub record RoutinesWalk (text code values code' values' : List ℕ) (at end : ℕ) (r : Walked) : Type 0 where
   pub is : (b : RoutinesStand text code values at end) → SaysRoutines b code' values' r

@@ -1,37 +1,37 @@
 // The checker: from a text to a code store that is ready to run, or the first rule broken and its place.
+// Both stores are lent one by one: check_statements says why.
 #![tactic(auto)]
 
 ghost use Rattle.std.specs.Prelude.{◌≡◌};
 ghost use Rattle.paper.specs.Answer.{verdict};
+ghost use Rattle.text_offsets.specs.Offsets.{Offset};
 ghost use Rattle.check_names.specs.Scopes.{BackTo};
 ghost use Rattle.check_whole.specs.Checks.{Judges, Checks};
 ghost use Rattle.check_whole.specs.Walks.{Laid, Formed, RoutinesStand, RoutinesWalk, Walks};
 ghost use Rattle.check_whole.specs.Passes.{Whole, Clean, Settles, Formal};
 
-use check_form::Verdict;
-use check_load::Loaded;
 use check_names::{Scope, Walked};
-use layout::{limits, rules};
+use layout::limits;
+use layout::rules::{Breach, Rule};
+use text_words::Refusal;
 
-#[derive(Drop)]
-pub enum Checked {
-    // how many words, how many module words, and the word that main begins with
-    Accepted(usize, usize, usize),
-    // the rule broken, and its offset
-    Refused(u32, usize),
+// A module that breaks no rule.
+#[derive(Clone, Copy)]
+pub struct Accepted {
+    // how many words its text has
+    pub words: usize,
+    // how many words of data it has
+    pub count: usize,
+    // the word that main begins with
+    pub main: usize,
 }
+
+pub type Checked = Result<Accepted, Refusal>;
 
 // ---- names and types
 
-#[derive(Drop)]
-enum Found {
-    // how many words of data the module has, and the word that main begins with
-    Main(usize, usize),
-    // no rule is broken, but there is no main
-    NoMain,
-    // the rule broken, and its word
-    Faulty(u32, usize),
-}
+// How many words of data the module has, and the word that main begins with, if there is one.
+type Found = Result<(usize, Option<usize>), Breach>;
 
 // The routines one after another, up to the word ENDMODULE at `end`, in the module's scope.
 fn all_routines(
@@ -48,18 +48,14 @@ fn all_routines(
     let mut h = at;
     let mut k = 0;
     let mut scope = outer;
+    // no range counts the routines: each begins where the one before it ends
     while h < end {
-        let r = check_routines::routine(text, code, values, scope, k, h);
-        match r {
-            Walked::Faulty(_, _) => return r,
-            Walked::Upto(next, left) => {
-                h = next;
-                k += 1;
-                scope = left;
-            }
-        }
+        let (next, left) = check_routines::routine(text, code, values, scope, k, h)?;
+        h = next;
+        k += 1;
+        scope = left;
     }
-    Walked::Upto(h, scope)
+    Ok((h, scope))
 }
 
 fn names_and_types(text: &[u8], code: &mut [u8], values: &mut [u8], words: usize) -> Found
@@ -67,25 +63,27 @@ fn names_and_types(text: &[u8], code: &mut [u8], values: &mut [u8], words: usize
     ensures { Walks text.now code.old values.old result code.new values.new }
 {
     let main = check_heads::read(text, code, values);
-    let d = check_declarations::module_data(Scope::of_module(), code, values, check_heads::FIRST);
-    match d {
-        Walked::Faulty(number, word) => Found::Faulty(number, word),
-        Walked::Upto(at, data) => {
-            let r = all_routines(text, code, values, data, at, words - 1);
-            match r {
-                Walked::Faulty(number, word) => Found::Faulty(number, word),
-                Walked::Upto(_, all) => {
-                    if main == 0 {
-                        return Found::NoMain;
-                    }
-                    Found::Main(all.used as usize, main)
-                }
-            }
-        }
-    }
+    let (at, data) = check_declarations::module_data(
+        Scope::of_module(),
+        code,
+        values,
+        check_heads::FIRST,
+    )?;
+    let (_, all) = all_routines(text, code, values, data, at, words - 1)?;
+    Ok((all.used as usize, main))
 }
 
 // ---- the passes
+
+// A rule broken at a word is told with the word's offset.
+fn refusal_of(text: &[u8], broken: Breach) -> Refusal
+    ensures { (result.rule ≡ broken.rule) × Offset text.now broken.word result.place }
+{
+    Refusal {
+        rule: broken.rule,
+        place: text_offsets::offset_of(text, broken.word),
+    }
+}
 
 // Rules 10 to 18. Then links lead to steps, and behind the module's words the value store is empty.
 fn judge_names(text: &[u8], code: &mut [u8], values: &mut [u8], words: usize) -> Checked
@@ -93,12 +91,15 @@ fn judge_names(text: &[u8], code: &mut [u8], values: &mut [u8], words: usize) ->
     ensures { Formal text.now code.old values.old result code.new values.new }
 {
     match names_and_types(text, code, values, words) {
-        Found::Faulty(number, at) => Checked::Refused(number, text_offsets::offset_of(text, at)),
-        Found::NoMain => Checked::Refused(rules::NO_MAIN, 0),
-        Found::Main(count, main) => {
+        Err(broken) => Err(refusal_of(text, broken)),
+        Ok((_, None)) => Err(Refusal {
+            rule: Rule::NoMain,
+            place: 0,
+        }),
+        Ok((count, Some(main))) => {
             check_links::resolve(code, words);
             store_cells::clear(values, count, limits::STORE_CELLS - count);
-            Checked::Accepted(words, count, main)
+            Ok(Accepted { words, count, main })
         }
     }
 }
@@ -109,8 +110,8 @@ fn judge_form(text: &[u8], code: &mut [u8], values: &mut [u8], words: usize) -> 
     ensures { Formal text.now code.old values.old result code.new values.new }
 {
     match check_form::form(code, words) {
-        Verdict::Refused(number, at) => Checked::Refused(number, text_offsets::offset_of(text, at)),
-        Verdict::Formed => judge_names(text, code, values, words),
+        Err(broken) => Err(refusal_of(text, broken)),
+        Ok(()) => judge_names(text, code, values, words),
     }
 }
 
@@ -119,10 +120,8 @@ fn judge_text(text: &[u8], code: &mut [u8], values: &mut [u8]) -> Checked
     requires { Clean code.old values.old }
     ensures { Settles text.now code.old values.old (verdict text.now) result code.new values.new }
 {
-    match check_load::load(text, code, values) {
-        Loaded::Refused(number, place) => Checked::Refused(number, place),
-        Loaded::Words(words) => judge_form(text, code, values, words),
-    }
+    let words = check_load::load(text, code, values)?;
+    judge_form(text, code, values, words)
 }
 
 // A module that is refused leaves both stores empty.
@@ -131,24 +130,25 @@ fn check_cells(text: &[u8], code: &mut [u8], values: &mut [u8]) -> Checked
     ensures { Judges text.now code.old values.old (verdict text.now) result code.new values.new }
 {
     store_cells::clear(values, 0, limits::STORE_CELLS);
-    let r = judge_text(text, code, values);
-    let Checked::Refused(_, _) = r else {
-        return r;
-    };
-    store_cells::clear(code, 0, limits::STORE_CELLS);
-    store_cells::clear(values, 0, limits::STORE_CELLS);
-    r
+    match judge_text(text, code, values) {
+        Ok(accepted) => Ok(accepted),
+        Err(refusal) => {
+            store_cells::clear(code, 0, limits::STORE_CELLS);
+            store_cells::clear(values, 0, limits::STORE_CELLS);
+            Err(refusal)
+        }
+    }
 }
 
 // Beyond their 16,384 words nothing is touched in either store.
 pub fn check(text: &[u8], code: &mut [u8], values: &mut [u8]) -> Checked
     ensures { Checks text.now code.old values.old result code.new values.new }
 {
-    if code.len() < limits::STORE_BYTES {
-        return Checked::Refused(rules::SMALL_STORE, 0);
-    }
-    if values.len() < limits::STORE_BYTES {
-        return Checked::Refused(rules::SMALL_STORE, 0);
+    if code.len() < limits::STORE_BYTES || values.len() < limits::STORE_BYTES {
+        return Err(Refusal {
+            rule: Rule::SmallStore,
+            place: 0,
+        });
     }
     check_cells(
         text,

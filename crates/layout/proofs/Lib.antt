@@ -1,1 +1,3 @@
 pub mod Typing
+pub mod RuleNumbers
+pub mod EndingNumbers

@@ -1,5 +1,6 @@
 -- How numbers are packed into a word's cells: each of these is what the upper part is multiplied by. The definitions of crate code take them apart.
-use Rattle.std.specs.Prelude.{ℕ}
+use Rattle.std.specs.Prelude.{ℕ, eqb, if◌then◌else◌}
+use Rattle.paper.specs.Words.{QUOTE}
 
 -- a head: its value above its op; so is a cell of the table of meanings
 abbrev pub value_part : ℕ
@@ -42,3 +43,7 @@ kind_part = 4
 
 abbrev pub type_part : ℕ
 type_part = 2
+
+-- how many bytes a character of a string takes that begins with this one: a quote stands twice
+abbrev pub width_of : ℕ → ℕ
+width_of b = if eqb b QUOTE then 2 else 1

@@ -1,32 +1,16 @@
--- Types as the check counts them: of an expression, and of what a routine gives back. Numbers from 3 on are free.
-use Rattle.std.specs.Prelude.{◌≡◌, ℕ, eqb, if◌then◌else◌}
-use Rattle.std.proofs.Math.Option.{Option, none, some}
-use Rattle.paper.specs.Names.{DataType, a_num, a_bool, refused_piece}
+-- Types as the check tells them: of an expression, and of what a routine gives back.
+use Rattle.std.specs.Prelude.{Option, Some, None}
+use Rattle.std.proofs.Math.Option as math
+use Rattle.paper.specs.Names.{DataType, a_num, a_bool}
+use Rattle.layout.specs.declared.types.ValueType.{ValueType}
+use Rattle.layout.specs.declared.types.ValueType.TheVariants.{Num, Bool}
 
--- a PROC gives nothing back
-abbrev pub no_type : ℕ
-no_type = 0
+-- the paper's type
+abbrev pub type_in : ValueType → DataType
+type_in Num = a_num
+type_in Bool = a_bool
 
-abbrev pub num_type : ℕ
-num_type = 1
-
-abbrev pub bool_type : ℕ
-bool_type = 2
-
--- the type that a number says
-unfoldable pub type_in : ℕ → Option DataType
-type_in t =
-    if eqb t num_type then some a_num
-    else if eqb t bool_type then some a_bool
-    else none
-
--- the number of a type; a refused piece has none
-unfoldable pub type_code : DataType → ℕ
-type_code a_num = num_type
-type_code a_bool = bool_type
-type_code refused_piece = no_type
-
--- a number that says a type
-pub record IsType (a : ℕ) : Type 0 where
-  pub type : DataType
-  pub is : type_in a ≡ some type
+-- of what a routine gives back: a PROC gives nothing back
+abbrev pub given_back : Option ValueType → math.Option DataType
+given_back None = math.none
+given_back (Some t) = math.some (type_in t)

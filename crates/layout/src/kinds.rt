@@ -1,4 +1,5 @@
 // Kinds of meanings (specs/Kinds.antt). Kind 0 is no meaning yet.
+// Numbers, and no enum: a cell of lent bytes may hold any number there, and check_names::kind_of promises the one that it holds.
 ghost use Rattle.std.specs.Prelude.{◌≡◌};
 ghost use Rattle.layout.specs.Named.{kinds};
 

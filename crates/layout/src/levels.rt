@@ -1,4 +1,5 @@
 // Levels of operators, from the tightest (paper/specs/Expressions.antt); none for a word that is no operator.
+// Numbers, and no enum, as the paper counts them: text_sorts::level_of promises the number, and the right side of an operator is checked one level down.
 ghost use Rattle.std.specs.Prelude.{◌≡◌};
 ghost use Rattle.layout.specs.Named.{levels};
 

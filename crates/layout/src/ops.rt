@@ -1,4 +1,5 @@
 // Ops: what the low byte of a word's head says once the check has passed it (code/specs/Spans.antt, Steps.antt).
+// Numbers, and no enum: cells of lent bytes hold them, and a step is chosen by the number as it stands there, with nothing to decode.
 ghost use Rattle.std.specs.Prelude.{◌≡◌, map};
 ghost use Rattle.code.specs.Spans.{operator_of, operators};
 ghost use Rattle.layout.specs.Named.{ops};

@@ -1,6 +1,7 @@
 // How numbers are packed into a word's cells (specs/Parts.antt): each of these is what the upper part is multiplied by.
 ghost use Rattle.std.specs.Prelude.{◌≡◌};
 ghost use Rattle.layout.specs.Named.{parts};
+ghost use Rattle.layout.specs.Parts.{width_of};
 
 // a head: its value above its op; so is a cell of the table of meanings
 pub const VALUE: u32 = 256;
@@ -54,4 +55,11 @@ pub fn all() -> [u32; 11]
     [
         VALUE, LINK, SIZE, CHARACTERS, LOOP, SPELLED, RIGHT, RIGHTS, BIAS, KIND, TYPE,
     ]
+}
+
+// How many bytes a character of a string takes that begins with b: a quote stands twice.
+pub fn width(b: u8) -> usize
+    ensures { result ≡ width_of b }
+{
+    if b == b'"' { 2 } else { 1 }
 }

@@ -20,12 +20,13 @@ use Rattle.code.specs.Cells.{window_of, place_at, window_cells}
 use Rattle.code.specs.Windows.{call_in, waiting, state_in}
 use Rattle.store_evaluation.specs.Answers.{first_error}
 use Rattle.store_evaluation.specs.Parts.{addresses}
+use Rattle.layout.specs.Endings.{ending_number}
 use Rattle.run_machine.specs.Live.{Live}
 use Rattle.run_machine.specs.Machine as machine
 use Rattle.run_machine.specs.Machine.{depth_limit, entered, left, ended, lacked_by, handed, Here, LastWindow, Lends, Comes, enters, leaves, Steps, Stepped, effect_at}
 use Rattle.run_machine.proofs.Current.{place_here, small-name}
 use Rattle.run_machine.proofs.Elsewhere.{elsewhere}
-use Rattle.run_advancing.specs.declared.Machine.{Machine}
+use Rattle.run_errors.specs.declared.Machine.{Machine}
 use Rattle.run_advancing.specs.declared.Turn.{Turn}
 use Rattle.run_advancing.specs.declared.Turn.TheVariants.{On}
 use Rattle.run_advancing.specs.Turns.{turned, Turns, on, Leaves, Advances, Breaks, ends, lacks, hands, fails, Unmade, outcome, Settled}
@@ -80,7 +81,7 @@ module _ (text code values inputs out : List ℕ) (last : ℕ) (m : Machine) (a 
     number_by (leaves c n e z lv q) = (left + n, e)
     number_by (machine.fails e z f lv q) = (first_error + e, z)
     number_by (machine.hands e x y q) = (handed, e)
-    number_by (machine.ends n e f x y q) = (ended + n, e)
+    number_by (machine.ends n e f x y q) = (ended + ending_number n, e)
     number_by (machine.lacks n w at e f j k pl x y q) = (lacked_by n + w, e)
 
     -- ---- by the answer
@@ -91,7 +92,7 @@ module _ (text code values inputs out : List ℕ) (last : ℕ) (m : Machine) (a 
     arm_goes z (leaves c n e y lv q) = absurd (omega (arith, answer-below r s (left + n) e entered z))
     arm_goes z (machine.fails e y f lv q) = absurd (omega (arith, answer-below r s (first_error + e) y entered z))
     arm_goes z (machine.hands e v w q) = absurd (omega (arith, answer-below r s handed e entered z))
-    arm_goes z (machine.ends n e f v w q) = absurd (omega (arith, answer-below r s (ended + n) e entered z))
+    arm_goes z (machine.ends n e f v w q) = absurd (omega (arith, answer-below r s (ended + ending_number n) e entered z))
     arm_goes z (machine.lacks n w at e f u j pl v y q) = absurd (omega (arith, answer-below r s (lacked_by n + w) e entered z, lacked_by-is n))
 
     -- a call is entered
@@ -103,7 +104,7 @@ module _ (text code values inputs out : List ℕ) (last : ℕ) (m : Machine) (a 
       arm-enters y (leaves c n e o lv q) = absurd (omega (arith, answer-below r s (left + n) e left y))
       arm-enters y (machine.fails e o f lv q) = absurd (omega (arith, answer-below r s (first_error + e) o left y))
       arm-enters y (machine.hands e v w q) = absurd (omega (arith, answer-below r s handed e left y))
-      arm-enters y (machine.ends n e f v w q) = absurd (omega (arith, answer-below r s (ended + n) e left y))
+      arm-enters y (machine.ends n e f v w q) = absurd (omega (arith, answer-below r s (ended + ending_number n) e left y))
       arm-enters y (machine.lacks n w at e f u j pl v o q) = absurd (omega (arith, answer-below r s (lacked_by n + w) e left y, lacked_by-is n))
 
       -- a call is left
@@ -117,7 +118,7 @@ module _ (text code values inputs out : List ℕ) (last : ℕ) (m : Machine) (a 
         )
         arm-leaves v (machine.fails e o f lv q) = absurd (omega (arith, answer-below r s (first_error + e) o ended v))
         arm-leaves v (machine.hands e u w q) = absurd (omega (arith, answer-below r s handed e ended v))
-        arm-leaves v (machine.ends n e f u w q) = absurd (omega (arith, answer-below r s (ended + n) e ended v))
+        arm-leaves v (machine.ends n e f u w q) = absurd (omega (arith, answer-below r s (ended + ending_number n) e ended v))
         arm-leaves v (machine.lacks n w at e f u j pl o k q) = absurd (omega (arith, answer-below r s (lacked_by n + w) e ended v, lacked_by-is n))
 
         -- it is not made
@@ -150,7 +151,7 @@ module _ (text code values inputs out : List ℕ) (last : ℕ) (m : Machine) (a 
             same = failed-outcome a h.P _ _ _ _ _ _ e _ q (failed-calls h.P rooms h.R (cells_of values) h.d i steps out (cells_of after) out' e q);
           }
           arm-breaks (machine.hands e b c q) = untouched b c (hands e (q ∙ ap handing (sym (same-state b c))))
-          arm-breaks (machine.ends n e f b c q) = untouched b c (ends n e f (q ∙ ap (ending n) (sym (same-state b c))))
+          arm-breaks (machine.ends n e f b c q) = untouched b c (ends n e f (q ∙ ap (ending (ending_number n)) (sym (same-state b c))))
           arm-breaks (machine.lacks n w at e f u j pl b c q) = untouched b c (lacks n w at e f u j pl q)
 
           abbrev after-here : Stands → Here code after m.base m.next

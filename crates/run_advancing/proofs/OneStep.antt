@@ -8,8 +8,7 @@ use lib.Dec.{ltb, leb}
 use lib.ListN.{length, get_or}
 use lib.IntN.{ℤ}
 use Rattle.raised.proofs.Choices.{chosen, forked}
-use Rattle.std.specs.Prelude.{if◌then◌else◌}
-use Rattle.paper.specs.Numbers.{Value, value, error, num, ranged, is_zero, decimal}
+use Rattle.paper.specs.Numbers.{Value, value, error, num, ranged, is_zero}
 use Rattle.paper.specs.Terms.{Term, Memory, Located, at, fails, locate, worth}
 use Rattle.paper.specs.Steps.{Spot, scalar, element_of, Action, store, call_for, call_of, give_back, raise, hand_on, exit, retry, try_next, write, read, choose, select, test_while, enter_for, repeat_for, end_list, end_undo, Program}
 use Rattle.paper.specs.States.{Loop, Location, Call, State, Rooms, Effect, made, failing, handing, ending, lacking, counted, with_errno, with_output, with_value, with_spot, with_values, location_of}

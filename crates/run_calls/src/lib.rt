@@ -1,4 +1,5 @@
 // Calls.
+// Why steps take and answer what they do stands in run_machine/src/lib.rt.
 #![tactic(auto)]
 
 ghost use Rattle.std.specs.Prelude.{◌≡◌, true, ◌+◌, ◌*◌, ◌<◌, ◌≤◌, eqb, length, pos};
@@ -21,7 +22,8 @@ use store_reading::{head, link, place, put, value};
 
 // ---- arguments
 
-// Two numbers in one. It goes through 32 bits, by which the compiler sees that it is no error.
+// Two numbers in one, since they are answered where an error may be: a Result of both comes back through memory (layout/src/answers.rt).
+// It goes through 32 bits, by which the compiler sees that it is no error.
 fn packed(low: usize, high: usize) -> i64
     requires { (low < answers) × (high < answers) }
     ensures { result ≡ pos (low + answers * high) }
@@ -50,7 +52,7 @@ fn pass(values: &mut [u8], room: bool, n: usize, v: i64)
 }
 
 // The arguments from `first` on, the first of which ends at `end`, into the next window where there is room: the word that closes them and, above it, the
-// cell behind them; or an error.
+// cell behind them; or an error. A walk along links, no count.
 fn arguments<'a>(
     code: &'a [u8],
     values: &'a mut [u8],
@@ -110,6 +112,7 @@ fn enter<'a>(
 }
 
 // The word whose link is where the caller goes on: the call's own where a result is wanted, else the one that closes the arguments.
+// `res` is what the cell of the result holds: 0 where none is wanted.
 fn goes_on(i: usize, closes: usize, res: usize) -> usize
     ensures { result ≡ goes_on_at i closes res }
 {

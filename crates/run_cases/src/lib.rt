@@ -1,4 +1,5 @@
 // TEST and its cases.
+// Why steps take and answer what they do stands in run_machine/src/lib.rt.
 #![tactic(auto)]
 
 ghost use Rattle.std.specs.Int.{w32};
@@ -13,6 +14,7 @@ use store_evaluation::worth;
 use store_reading::{head, link, place};
 
 // Where a TEST with the value v goes on: from the word `first` on, the first word with that value says it, or what follows them.
+// A walk along links, no count.
 fn matching(code: &[u8], first: usize, v: i64) -> usize
     requires { SFits w32 v × Cases code.now first }
     ensures { Matches code.now first v result }

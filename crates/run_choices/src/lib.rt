@@ -1,4 +1,5 @@
 // IF, WHILE and RAISE: what decides where a run goes on.
+// Why steps take and answer what they do stands in run_machine/src/lib.rt.
 #![tactic(auto)]
 
 ghost use Rattle.code.specs.Steps.{a_raise_of, a_compact_if, an_if, a_while};
@@ -26,7 +27,7 @@ pub fn test_if<'a>(code: &'a [u8], values: &'a [u8], base: usize, i: usize, t: u
     link(code, i) as i64
 }
 
-// An IF whose first THEN is at w: the first condition that holds says where to go on, or what follows the last.
+// An IF whose first THEN is at w: the first condition that holds says where to go on, or what follows the last. A walk along links, no count.
 pub fn choose<'a>(code: &'a [u8], values: &'a [u8], base: usize, i: usize, w: usize) -> i64
     requires { Here code.now values.now base i × Says code.now i an_if w }
     ensures { Performs code.now values.now values.now base i result }
@@ -52,7 +53,7 @@ pub fn choose<'a>(code: &'a [u8], values: &'a [u8], base: usize, i: usize, w: us
 
 // ---- WHILE
 
-// A WHILE whose DO is at t.
+// A WHILE whose DO is at t. Unlike a compact IF it goes on where the word at t says, so that one function for both would ask which of them it is.
 pub fn test_while<'a>(code: &'a [u8], values: &'a [u8], base: usize, i: usize, t: usize) -> i64
     requires { Here code.now values.now base i × Says code.now i a_while t }
     ensures { Performs code.now values.now values.now base i result }

@@ -12,12 +12,12 @@ use mir.Val.{SFits}
 use mir.Facts.{to_z-of_z}
 use borrow.Author.Tests.{le-leb, lt-leb}
 use borrow.Rule.Slice.PartMut.{mid_of, post_of, put_mid, Post-is}
+use Rattle.std.specs.Prelude.{Some, None}
 use Rattle.laws.specs.Lists.{replaced}
 use Rattle.laws.proofs.Lists.{part-rest}
 use Rattle.paper.specs.Numbers.{decimal}
 use Rattle.store_numbers.proofs.Whole.{read}
 use Rattle.run_decimals.specs.Placed.{fit, answer, placed, Puts}
-use Rattle.run_decimals.specs.declared.Put.TheVariants.{Done, NoRoom}
 
 -- the part from a on has s at its front then
 pub put_front : (l s : List ℕ) (a n : ℕ) → a ≤ length l → put_mid a (length l - a) l (s ++ drop n (mid_of a (length l - a) l)) ≡ replaced l a s n
@@ -41,16 +41,16 @@ signed (x ∷ l) s ys c h g e =
 -- the n bytes s were put, or do not fit
 module _ (before : List ℕ) (at n : ℕ) (s : List ℕ) (e : n ≡ length s) where
   pub puts-done : at ≤ length before → n ≤ length before - at → (ys : List ℕ) → ys ≡ s ++ drop n (mid_of at (length before - at) before)
-      → Puts before (put_mid at (length before - at) before ys) at s (Done (at + n))
+      → Puts before (put_mid at (length before - at) before ys) at s (Some (at + n))
   unfolding answer placed
   puts-done h g ys d =
       let t : fit before at s ≡ true = le-leb (at + length s) (length before) (omega arith) in
       record {
-        result = rw (t, answer) (ap (λ (k : ℕ). Done (at + k)) e);
+        result = rw (t, answer) (ap (λ (k : ℕ). Some (at + k)) e);
         bytes = ap (put_mid at (length before - at) before) d ∙ put_front before s at n h ∙ rw (t, placed) (rw e);
       }
 
-  pub puts_none : length before < at + n → Puts before before at s NoRoom
+  pub puts_none : length before < at + n → Puts before before at s None
   unfolding answer placed
   puts_none h =
       let t : fit before at s ≡ false = lt-leb (at + length s) (length before) (omega arith) in
@@ -62,11 +62,11 @@ module _ (before : List ℕ) (at n : ℕ) (z : ℤ) (f : SFits w64 z) (e : n ≡
   count = rw (to_z-of_z f) at e
 
   pub number-done : at ≤ length before → n ≤ length before - at → (ys : List ℕ) → ys ≡ decimal (read z) ++ drop n (mid_of at (length before - at) before)
-      → Puts before (put_mid at (length before - at) before ys) at (decimal z) (Done (at + n))
+      → Puts before (put_mid at (length before - at) before ys) at (decimal z) (Some (at + n))
   number-done h g ys d = puts-done before at n (decimal z) count h g ys (rw (to_z-of_z f) at d)
 
-  pub number_past : length before < at → Puts before before at (decimal z) NoRoom
+  pub number_past : length before < at → Puts before before at (decimal z) None
   number_past h = puts_none before at n (decimal z) count (omega arith)
 
-  pub number_short : at ≤ length before → length before - at < n → Puts before before at (decimal z) NoRoom
+  pub number_short : at ≤ length before → length before - at < n → Puts before before at (decimal z) None
   number_short h g = puts_none before at n (decimal z) count (omega arith)

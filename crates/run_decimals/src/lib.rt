@@ -1,17 +1,12 @@
-// Whole numbers in plain decimal, written into a lent slice.
+// Whole numbers in plain decimal, written into a lent slice. By hand: number_length is asked before a byte is written, and the digits
+// are put from the last one on; what the library's formatting writes into a slice would have to be measured first as well, and no line would be less.
 #![tactic(auto)]
 
 ghost use Rattle.std.specs.Prelude.{◌≡◌, ◌∷◌, ◌++◌, ◌+◌, ◌≤◌, length, drop};
 ghost use Rattle.paper.specs.Numbers.{digits, decimal};
 ghost use Rattle.run_decimals.specs.Placed.{Takes, PutsNumber};
 
-#[derive(Drop)]
-pub enum Put {
-    Done(usize),
-    NoRoom,
-}
-
-// How many digits n has.
+// How many digits n has: 10 divides it as long as there are more, which no iterator says more plainly.
 fn count_digits(n: u64) -> usize
     ensures { (result ≡ length (digits 20 n)) × (result ≤ 20) }
 {
@@ -35,7 +30,8 @@ pub fn number_length(z: i64) -> usize
     k
 }
 
-// Writes the digits of n, count of them, to the front of what is lent: the last digit first.
+// Writes the digits of n, count of them, to the front of what is lent: the last digit first, since 10 divides
+// n as long as there are more, and no iterator is plainer.
 fn write_digits(out: &mut [u8], n: u64, count: usize)
     requires { (count ≡ length (digits 20 n)) × (count ≤ length out.old) }
     ensures { out.new ≡ digits 20 n ++ drop count out.old }
@@ -72,17 +68,17 @@ pub fn write_number(out: &mut [u8], z: i64, count: usize)
     }
 }
 
-// Writes z at a place, where it fits whole: the unwritten rest is lent on, so that the earlier bytes stay.
-pub fn put_number(out: &mut [u8], at: usize, z: i64) -> Put
+// Writes z at a place, where it fits whole, and tells the place behind it: the unwritten rest is lent on, so that the earlier bytes stay.
+pub fn put_number(out: &mut [u8], at: usize, z: i64) -> Option<usize>
     ensures { PutsNumber out.old out.new at z result }
 {
     let n = number_length(z);
     if out.len() < at {
-        return Put::NoRoom;
+        return None;
     }
     if out.len() - at < n {
-        return Put::NoRoom;
+        return None;
     }
     write_number(&mut out[at..], z, n);
-    Put::Done(at + n)
+    Some(at + n)
 }

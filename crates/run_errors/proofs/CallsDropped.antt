@@ -29,7 +29,10 @@ use Rattle.code.specs.Holds.{optionally}
 use Rattle.code.specs.Windows.{routine_cell, waits_cell, failed_cell, call_in, waiting, state_in}
 use Rattle.layout.specs.Answers.{first_error, answers}
 use Rattle.store_evaluation.specs.Parts.{addresses}
-use Rattle.run_errors.specs.declared.Taken.{Taken}
+use Rattle.std.specs.Prelude.{Some, None}
+use Rattle.std.specs.Option.{is_some}
+use Rattle.run_errors.specs.Taken.{Taken, Listed, listed}
+use Rattle.run_errors.specs.declared.Machine.{Machine}
 use Rattle.run_machine.specs.Live.{Live, has_failed, routine_of_call, code_of_call}
 use Rattle.run_machine.specs.Machine.{handed, Here, KeepsRun}
 use Rattle.run_errors.specs.Errors as errors
@@ -86,6 +89,23 @@ caught-nobody P = refl
 zero-handler : optionally 0 ≡ none
 unfolding optionally
 zero-handler = refl
+
+-- ---- a list that may be missing
+pub none-listed : (x : ℕ) → listed x ≡ None → x ≡ 0
+none-listed zero e = refl
+none-listed (suc x) e = cc
+
+pub some-listed : (x h : ℕ) → listed x ≡ Some h → (h ≡ x) × (h ≡ 0 → ⊥)
+some-listed zero h e = cc
+some-listed (suc x) h e = let q : h ≡ suc x = cc in (q, λ z. omega (arith, q, z))
+
+pub none-found : (o : Listed) (x : ℕ) → o ≡ listed x → is_some o ≡ false → x ≡ 0
+none-found o zero e t = refl
+none-found o (suc x) e t = false-true (sym t ∙ ap is_some e)
+
+pub some-found : (o : Listed) (x : ℕ) → o ≡ listed x → is_some o ≡ true → x ≡ 0 → ⊥
+some-found o zero e t z = false-true (sym (ap is_some e) ∙ t)
+some-found o (suc x) e t z = absurd (omega (arith, z))
 
 -- ---- the search up the chain, whatever is asked of the calls
 module _ (A : Type 0) (ask : Program → List Call → A) where
@@ -172,21 +192,21 @@ module _ (code values : List ℕ) (base i b s : ℕ) (k : Seeking code values ba
 
 -- found, or at main
 module _ (code values : List ℕ) (base i b s : ℕ) (k : Seeking code values base i b s) where
-  pub nearest-found : (x : ℕ) → x ≡ handler_at code values b → (x ≡ 0 → ⊥) → Nearest code values base i (record { next = s; base = b })
-  nearest-found x e d = record { is = k; main = λ z. absurd (d (e ∙ z)) }
+  pub nearest-found : (o : Listed) → o ≡ listed (handler_at code values b) → is_some o ≡ true → Nearest code values base i (record { next = s; base = b })
+  nearest-found o e t = record { is = k; main = λ z. absurd (some-found o (handler_at code values b) e t z) }
 
   pub nearest-main : b ≡ first_window → Nearest code values base i (record { next = s; base = b })
   nearest-main m = record { is = k; main = λ z. m }
 
-  pub seek-on : (x : ℕ) → x ≡ handler_at code values b → x ≡ 0 → (b ≡ first_window → ⊥) → (w : ℕ) → w ≡ get_or (cells_of values) (b - window_cells + waits_cell) 0 → Seeking code values base i (b - window_cells) w
-  seek-on x e z d w ew h =
+  pub seek-on : (o : Listed) → o ≡ listed (handler_at code values b) → is_some o ≡ false → (b ≡ first_window → ⊥) → (w : ℕ) → w ≡ get_or (cells_of values) (b - window_cells + waits_cell) 0 → Seeking code values base i (b - window_cells) w
+  seek-on o e t d w ew h =
       subst (Seeks (Option (List Call)) (caught h.P) h.P h.R (cells_of values) h.d i (b - window_cells)) (sym ew)
       (seek-up (Option (List Call)) caught code values base i b s h (k h) d
       (caught-on h.P (call_in h.P h.R (cells_of values) (window_of (k h).e) s) (waiting h.P h.R (cells_of values) (k h).e)
-      (handler-here code values base i b s k h ∙ ap optionally (sym e ∙ z) ∙ zero-handler)))
+      (handler-here code values base i b s k h ∙ ap optionally (none-found o (handler_at code values b) e t) ∙ zero-handler)))
 
 -- ---- the call that was found
-module _ (code values : List ℕ) (base i : ℕ) (t : Taken) (nr : Nearest code values base i t) where
+module _ (code values : List ℕ) (base i : ℕ) (t : Machine) (nr : Nearest code values base i t) where
   module _ (h : Here code values base i) where
     at_call : Here code values t.base t.next
     at_call = come-here code values base i t.base t.next nr.is h
@@ -219,7 +239,7 @@ module _ (code values : List ℕ) (base i : ℕ) (t : Taken) (nr : Nearest code 
         ∙ ap (λ (j : ℕ). caught h.P (waiting h.P h.R (cells_of values) j)) m
         ∙ caught-nobody h.P
 
-    pub unwind-none : x ≡ 0 → Unwound code values values base i (record { next = 0; base = t.base })
+    pub unwind-none : x ≡ 0 → Unwound code values values base i None
     unwind-none z = record { long = refl; kept = λ c a b. refl; does = λ h. dies refl refl (nobody h z) }
 
     module _ (d : x ≡ 0 → ⊥) (f : ℕ) (ef : f ≡ get_or (cells_of values) (t.base + failed_cell) 0) where
@@ -232,7 +252,7 @@ module _ (code values : List ℕ) (base i : ℕ) (t : Taken) (nr : Nearest code 
         failed-is = ap optionally (ap (λ (b : ℕ). get_or (cells_of values) (b + failed_cell) 0) (sym (nr.is h).base-is) ∙ sym ef)
 
       -- it is in its ERROR list
-      pub unwind-dies : (f ≡ 0 → ⊥) → Unwound code values values base i (record { next = 0; base = t.base })
+      pub unwind-dies : (f ≡ 0 → ⊥) → Unwound code values values base i None
       unwind-dies g = record {
         long = refl;
         kept = λ c a b. refl;
@@ -303,13 +323,13 @@ module _ (code values : List ℕ) (base i : ℕ) (t : Taken) (nr : Nearest code 
               subst (λ (y : List ℕ). Live h.P h.R y q.e x) (sym words_are)
               (live-failed h.P h.R (cells_of values) q.e (window_of q.e + failed_cell) t.next x (live-next h.P h.R (cells_of values) q.e t.next x q.live named-x) refl in-store (has_failed q.live.named))
 
-        pub unwind-takes : Here code values base i → Unwound code values after base i (record { next = x; base = t.base })
+        pub unwind-takes : Here code values base i → Unwound code values after base i (Some (record { next = x; base = t.base }))
         unwind-takes h₀ = record {
           long = put-length p (omega (arith, found_in h₀));
           kept = kept_run h₀;
           does = λ h.
               let q = nr.is h in
-              errors.takes q.e (omega (arith, d)) q.base-is (omega (arith, q.up, h.deep)) (live-after h)
+              errors.takes q.e (record { next = x; base = t.base }) refl (omega (arith, d)) q.base-is (omega (arith, q.up, h.deep)) (live-after h)
               (q.rest
               ∙ caught-here h.P (call_in h.P h.R (cells_of values) (window_of q.e) t.next) (waiting h.P h.R (cells_of values) q.e) x (handler-some h) (failed-is h ∙ ap optionally z ∙ zero-handler)
               ∙ ap some (sym (calls_are h)))
@@ -386,10 +406,10 @@ module _ (P : Program) (R : List Head) (X after : List ℕ) (c j d i steps place
   settles e s lv q (dies z same n) =
       stops z (subst (λ (x : List ℕ). Live P R x d i) (sym same) lv)
       (arising-none P e place (call_in P R X (window_of c) j ∷ waiting P R X c) s n ∙ ap (stopping true 3 place) (q ∙ ap (λ (x : List ℕ). state_in P R x d i steps out) (sym same)))
-  settles e s lv q (errors.takes k l b deep live n rest) =
-      resumes k l b deep live
-      (arising-some P e place (call_in P R X (window_of c) j ∷ waiting P R X c) (call_in P R after (window_of k) t.next ∷ waiting P R after k) s n
-      ∙ ap goes_on (ap (with_calls (call_in P R after (window_of k) t.next ∷ waiting P R after k)) q ∙ rest d i steps out))
+  settles e s lv q (errors.takes k m tm l b deep live n rest) =
+      resumes k m tm l b deep live
+      (arising-some P e place (call_in P R X (window_of c) j ∷ waiting P R X c) (call_in P R after (window_of k) m.next ∷ waiting P R after k) s n
+      ∙ ap goes_on (ap (with_calls (call_in P R after (window_of k) m.next ∷ waiting P R after k)) q ∙ rest d i steps out))
 
 calls-of : (P : Program) (R : List Head) (X : List ℕ) (d i steps : ℕ) (out : List ℕ) → (state_in P R X d i steps out).calls ≡ call_in P R X (window_of d) i ∷ waiting P R X d
 unfolding state_in
@@ -422,7 +442,7 @@ module _ (code values : List ℕ) (base i : ℕ) (r : ℤ) (f : SFits w64 r) (a 
     }
 
   module _ (t : le_z (pos first_error) (read r) ≡ false) where
-    pub arise-main : base ≡ first_window → Arisen code values values base i r (record { next = 0; base = base })
+    pub arise-main : base ≡ first_window → Arisen code values values base i r None
     unfolding waiting
     arise-main m = record {
       long = refl;

@@ -9,7 +9,9 @@ use Rattle.code.specs.Cells.{window_of, link_at, errno_cell}
 use Rattle.code.specs.Steps.{Head}
 use Rattle.code.specs.Windows.{routine_cell, call_in, waiting, state_in}
 use Rattle.layout.specs.Answers.{first_error, answers}
-use Rattle.run_errors.specs.declared.Taken.{Taken}
+use Rattle.std.specs.Prelude.{Some, None}
+use Rattle.run_errors.specs.Taken.{Taken}
+use Rattle.run_errors.specs.declared.Machine.{Machine}
 use Rattle.run_machine.specs.Live.{Live}
 use Rattle.run_machine.specs.Machine.{depth_limit, handed, Here, KeepsRun}
 
@@ -31,17 +33,17 @@ pub record Seeks (A : Type 0) (ask : List Call → A) (P : Program) (R : List He
   pub rest : ask (call_in P R X (window_of d) i ∷ waiting P R X d) ≡ ask (call_in P R X (window_of e) s ∷ waiting P R X e)
 
 -- here: who takes an error
-pub record Nearest (code values : List ℕ) (base i : ℕ) (t : Taken) : Type 0 where
+pub record Nearest (code values : List ℕ) (base i : ℕ) (t : Machine) : Type 0 where
   pub is : (h : Here code values base i) → Seeks (Option (List Call)) (caught h.P) h.P h.R (cells_of values) h.d i t.base t.next
   pub main : handler_at code values t.base ≡ 0 → t.base ≡ window_of 0
 
--- By what step of what call an error is taken that arises in step i of the call with d callers, or that it hands on while it waits there: 0 where the run dies.
+-- By what step of what call an error is taken that arises in step i of the call with d callers, or that it hands on while it waits there: none where the run dies.
 module _ (P : Program) (R : List Head) (X X' : List ℕ) (d i : ℕ) where
   pub data Takes (t : Taken) : Type 0 where
-    dies : t.next ≡ 0 → X' ≡ X → caught P (call_in P R X (window_of d) i ∷ waiting P R X d) ≡ none → Takes t
-    takes : (c : ℕ) → 0 < t.next → t.base ≡ window_of c → c < depth_limit → Live P R X' c t.next
-        → caught P (call_in P R X (window_of d) i ∷ waiting P R X d) ≡ some (call_in P R X' (window_of c) t.next ∷ waiting P R X' c)
-        → ((e j steps : ℕ) (out : List ℕ) → with_calls (call_in P R X' (window_of c) t.next ∷ waiting P R X' c) (state_in P R X e j steps out) ≡ state_in P R X' c t.next steps out)
+    dies : t ≡ None → X' ≡ X → caught P (call_in P R X (window_of d) i ∷ waiting P R X d) ≡ none → Takes t
+    takes : (c : ℕ) (m : Machine) → t ≡ Some m → 0 < m.next → m.base ≡ window_of c → c < depth_limit → Live P R X' c m.next
+        → caught P (call_in P R X (window_of d) i ∷ waiting P R X d) ≡ some (call_in P R X' (window_of c) m.next ∷ waiting P R X' c)
+        → ((e j steps : ℕ) (out : List ℕ) → with_calls (call_in P R X' (window_of c) m.next ∷ waiting P R X' c) (state_in P R X e j steps out) ≡ state_in P R X' c m.next steps out)
         → Takes t
 
 pub record Unwound (code values after : List ℕ) (base i : ℕ) (t : Taken) : Type 0 where
@@ -57,8 +59,8 @@ pub data Raises (r : ℤ) : Type 0 where
 -- How a run goes on then, as the paper has it.
 module _ (P : Program) (R : List Head) (X' : List ℕ) (d i steps place : ℕ) (out : List ℕ) where
   pub data Settles (t : Taken) (o : Outcome) : Type 0 where
-    stops : t.next ≡ 0 → Live P R X' d i → o ≡ stopping true 3 place (state_in P R X' d i steps out) → Settles t o
-    resumes : (c : ℕ) → 0 < t.next → t.base ≡ window_of c → c < depth_limit → Live P R X' c t.next → o ≡ goes_on (state_in P R X' c t.next steps out) → Settles t o
+    stops : t ≡ None → Live P R X' d i → o ≡ stopping true 3 place (state_in P R X' d i steps out) → Settles t o
+    resumes : (c : ℕ) (m : Machine) → t ≡ Some m → 0 < m.next → m.base ≡ window_of c → c < depth_limit → Live P R X' c m.next → o ≡ goes_on (state_in P R X' c m.next steps out) → Settles t o
 
 pub record Arisen (code values after : List ℕ) (base i : ℕ) (r : ℤ) (t : Taken) : Type 0 where
   pub long : length after ≡ length values

@@ -1,5 +1,5 @@
 -- What a step of the machine asks of the two stores, and what it promises: it does what the paper's step does with the state that the value store holds.
-use Rattle.std.specs.Prelude.{◌≡◌, List, map, ℕ, suc, ◌+◌, ◌-◌, ◌*◌, ◌<◌, ◌≤◌, length, get_or, drop, ℤ, pos}
+use Rattle.std.specs.Prelude.{◌≡◌, true, List, map, ℕ, suc, ◌+◌, ◌-◌, ◌*◌, ◌<◌, ◌≤◌, length, get_or, drop, ℤ, pos}
 use Rattle.std.specs.Int.{w32}
 use Rattle.std.proofs.Common.{to_z}
 use Rattle.paper.specs.Steps.{Program}
@@ -11,7 +11,9 @@ use Rattle.code.specs.Steps.{Head}
 use Rattle.code.specs.Holds.{Holds}
 use Rattle.code.specs.Windows.{call_in, waiting, written_in, state_in, written_cell}
 use Rattle.layout.specs.Answers.{first_error, answers}
-use Rattle.layout.specs.Rules.{fell_off, beyond_depth, no_room}
+use Rattle.layout.specs.Rules.{beyond_depth, no_room}
+use Rattle.layout.specs.declared.endings.Ending.{Ending}
+use Rattle.layout.specs.Endings.{ending_number, ends_step}
 -- the sizes of what is lent, and what a step answers
 pub use Rattle.paper.specs.Answer.{depth_limit}
 pub use Rattle.layout.specs.Named.{store_bytes}
@@ -35,7 +37,7 @@ module _ (P : Program) (R : List Head) (C : List ℕ) (offset : ℕ → ℕ) (d 
     leaves : (c n : ℕ) → r ≡ pos (left + n) → d ≡ suc c → Live P R X' c n → E ≡ made (state_in P R X' c n steps out') → Comes E r
     fails : (e : ℕ) → r ≡ pos (first_error + e) → e < answers → Live P R X' d i → E ≡ failing e (state_in P R X' d i steps out') → Comes E r
     hands : r ≡ pos handed → X' ≡ X → out' ≡ out → E ≡ handing (state_in P R X d i steps out) → Comes E r
-    ends : (n : ℕ) → r ≡ pos (ended + n) → n ≤ fell_off → X' ≡ X → out' ≡ out → E ≡ ending n (state_in P R X d i steps out) → Comes E r
+    ends : (e : Ending) → r ≡ pos (ended + ending_number e) → ends_step e ≡ true → X' ≡ X → out' ≡ out → E ≡ ending (ending_number e) (state_in P R X d i steps out) → Comes E r
     -- w has the offset of the word that it is at
     lacks : (n w at : ℕ) → r ≡ pos (lacked_by n + w) → beyond_depth ≤ n → n ≤ no_room → w < answers → place_at C w ≡ offset at → X' ≡ X → out' ≡ out → E ≡ lacking n at → Comes E r
 

@@ -1,12 +1,15 @@
 -- One entry more, and the end: what the tests say of both listings.
-use mathlib.Core.Path.{◌≡◌, refl, sym, ap, ap₂, ◌∙◌}
-use mathlib.Core.List.{List, [], ◌∷◌, ◌++◌}
+use mathlib.Core.Path.{◌≡◌, sym, ap, ◌∙◌}
+use mathlib.Core.Bool.{Bool, true, false}
+use mathlib.Core.List.{List, [], ◌∷◌}
 use Prim.Native.Nat.{ℕ, suc, ◌+◌, ◌*◌, ◌/◌, ◌≤◌, ◌<◌}
 use native.Mathlib.Omega.{arith}
+use lib.Dec.{eqb}
 use lib.ListN.{length, get_or}
+use borrow.Author.Tests.{eqb-true, eq-eqb}
+use Rattle.laws.proofs.Tests.{test, false-true}
 use Rattle.store_cells.specs.Cells.{cells_of}
 use Rattle.store_cells.proofs.Laws.{length-words}
-use Rattle.marks.specs.Marks.{shared, marking}
 use Rattle.marks.proofs.Meeting.{parted-before, ended-before, parts-now, meets-now, marking-all, marking-ours, marking-theirs}
 use Rattle.run_marking.specs.Beside.{Meets, Agrees}
 
@@ -39,14 +42,19 @@ module _ (listing : List ℕ) (common made : ℕ) where
           }
 
   -- ---- the end
-  pub agree-ours : (common ≡ made → ⊥) → Agrees listing common made 0
+  pub agree-ours : (common ≡ made → ⊥) → Agrees listing common made false
   agree-ours d = record { is = λ o l e. marking-ours o (cells_of listing) (λ q. d (sym e ∙ q ∙ l)) ∙ ap (λ (n : ℕ). record { same = 0; index = n }) e }
 
-  pub agree-theirs : (common ≡ length listing / 4 → ⊥) → Agrees listing common made 0
-  agree-theirs d = record { is = λ o l e. marking-theirs o (cells_of listing) (λ q. d (sym e ∙ q ∙ length-words listing)) ∙ ap (λ (n : ℕ). record { same = 0; index = n }) e }
+  pub agree-so : common ≡ made → (b : Bool) → b ≡ eqb common (length listing / 4) → Agrees listing common made b
+  agree-so c b eb = test (eqb common (length listing / 4))
+      (λ t. rw (eb ∙ t) (agree-all (eqb-true common (length listing / 4) t)))
+      (λ t. rw (eb ∙ t) (agree-theirs (λ d. false-true (sym t ∙ eq-eqb common (length listing / 4) d))))
+    where
+      agree-theirs : (common ≡ length listing / 4 → ⊥) → Agrees listing common made false
+      agree-theirs d = record { is = λ o l e. marking-theirs o (cells_of listing) (λ q. d (sym e ∙ q ∙ length-words listing)) ∙ ap (λ (n : ℕ). record { same = 0; index = n }) e }
 
-  pub agree-all : common ≡ made → common ≡ length listing / 4 → Agrees listing common made 1
-  agree-all c d = record {
-    is = λ o l e.
-        marking-all o (cells_of listing) (e ∙ c ∙ sym l) (e ∙ d ∙ sym (length-words listing)) ∙ ap (λ (n : ℕ). record { same = 1; index = n }) e;
-  }
+      agree-all : common ≡ length listing / 4 → Agrees listing common made true
+      agree-all d = record {
+        is = λ o l e.
+            marking-all o (cells_of listing) (e ∙ c ∙ sym l) (e ∙ d ∙ sym (length-words listing)) ∙ ap (λ (n : ℕ). record { same = 1; index = n }) e;
+      }

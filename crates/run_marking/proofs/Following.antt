@@ -2,7 +2,7 @@
 use mathlib.Core.Path.{◌≡◌, refl, sym, ap, ap₂, subst, ◌∙◌}
 use mathlib.Core.Bool.{Bool, true, false}
 use mathlib.Core.List.{List, [], ◌∷◌, ◌++◌, map, append-nil, append_assoc}
-use Prim.Native.Nat.{ℕ, zero, suc, ◌+◌, ◌-◌, ◌*◌, ◌<◌, ◌≤◌}
+use Prim.Native.Nat.{ℕ, suc, ◌+◌, ◌-◌, ◌*◌, ◌<◌, ◌≤◌}
 use native.Mathlib.Omega.{arith}
 use lib.ListN.{length, length-append}
 use Rattle.laws.proofs.Tests.{apart, false-true}
@@ -14,16 +14,19 @@ use Rattle.store_cells.specs.Cells.{cells_of}
 use Rattle.code.specs.Cells.{window_of, place_at}
 use Rattle.code.specs.Steps.{Head}
 use Rattle.code.specs.Windows.{call_in, state_in}
-use Rattle.layout.specs.Rules.{steps_spent}
+use Rattle.layout.specs.declared.endings.Ending.{Ending}
+use Rattle.layout.specs.declared.endings.Ending.TheVariants.{StepsSpent}
+use Rattle.layout.specs.Endings.{ending_number}
 use Rattle.run_machine.specs.Live.{Live}
 use Rattle.run_machine.specs.Machine.{depth_limit, Here, LastWindow, Lends, Steps}
 use Rattle.run_machine.proofs.Current.{place_here, step-in}
 use Rattle.run_machine.proofs.Elsewhere.{elsewhere}
 use Rattle.run_output.proofs.OneLine.{count-is}
-use Rattle.run_advancing.specs.declared.Machine.{Machine}
+use Rattle.run_errors.specs.declared.Machine.{Machine}
+use Rattle.run_advancing.specs.declared.Halt.{Halt}
 use Rattle.run_advancing.specs.declared.Turn.{Turn}
 use Rattle.run_advancing.specs.declared.Turn.TheVariants.{On, Over}
-use Rattle.run_advancing.specs.Turns.{turned, told, made_with, Turns, on, over, gone, Leaves, Advances}
+use Rattle.run_advancing.specs.Turns.{halt, turned, told, made_with, Turns, on, over, gone, Leaves, Advances}
 use Rattle.run_advancing.proofs.Answers.{leaves-then}
 use Rattle.run_whole.specs.declared.Ended.{Ended}
 use Rattle.run_whole.specs.Runs.{standing, Comes}
@@ -82,13 +85,13 @@ follow-starts text code values inputs out listing last from steps s =
 -- ---- a run that has ended
 -- after k steps, at a step of the call with d callers, with these entries of ours
 module _ (P : Program) (R : List Head) (offset : ℕ → ℕ) (rooms : Rooms) (steps : ℕ) (s₀ : State) (after out listing : List ℕ) (r : Marked) where
-  comes-beside : (n p d i k : ℕ) (o : List ℕ) → d < depth_limit → Live P R (cells_of after) d i → run P rooms steps s₀ ≡ record { ending = n; place = p; state = state_in P R (cells_of after) d i k out }
-      → ended_of r ≡ record { ending = n; place = told offset n p; made = k } → map offset (listed P rooms steps s₀) ≡ o → marking o (cells_of listing) ≡ marking_of r
+  comes-beside : (n : Ending) (p d i k : ℕ) (o : List ℕ) → d < depth_limit → Live P R (cells_of after) d i → run P rooms steps s₀ ≡ record { ending = ending_number n; place = p; state = state_in P R (cells_of after) d i k out }
+      → ended_of r ≡ record { ending = n; place = told offset (ending_number n) p; made = k } → map offset (listed P rooms steps s₀) ≡ o → marking o (cells_of listing) ≡ marking_of r
       → ComesBeside P R offset rooms steps s₀ after out listing r
   unfolding state_in
   comes-beside n p d i k o de lv e q w t = record {
     comes = subst (λ (z : running.Ended). Comes P R offset after out z (ended_of r)) (sym e) (record {
-      ending = ap (λ (z : Ended). z.ending) q;
+      ending = ap (λ (z : Ended). ending_number z.ending) q;
       place = ap (λ (z : Ended). z.place) q;
       made = ap (λ (z : Ended). z.made) q;
       state = standing d i de lv refl;
@@ -140,7 +143,7 @@ module _ (text code values₀ inputs out₀ listing : List ℕ) (last : ℕ) (fr
   follow-place = step-in code values m.base m.next follow-here
 
   -- ---- the steps are spent
-  module _ (z : steps ≤ made) (p : ℕ) (ep : p ≡ place_at (cells_of code) m.next) (r : Marked) (st : Settles listing steps_spent p made common r) where
+  module _ (z : steps ≤ made) (p : ℕ) (ep : p ≡ place_at (cells_of code) m.next) (r : Marked) (st : Settles listing StepsSpent p made common r) where
     none_left : steps - made ≡ 0
     none_left = omega arith
 
@@ -151,9 +154,9 @@ module _ (text code values₀ inputs out₀ listing : List ℕ) (last : ℕ) (fr
         let q = now h x rooms lw l in
         let s = S h x rooms lw l in
         comes-beside h.P h.R h.offset rooms steps (s₀ h x rooms lw l) values out listing r
-        steps_spent (next_place h.P s) q.d m.next made q.entries q.deep q.live
+        StepsSpent (next_place h.P s) q.d m.next made q.entries q.deep q.live
         (q.rest ∙ ap (λ (n : ℕ). run h.P rooms n s) none_left)
-        (st.ended ∙ ap (λ (y : ℕ). record { ending = steps_spent; place = y; made = made }) (ep ∙ now-place h x rooms lw l))
+        (st.ended ∙ ap (λ (y : ℕ). record { ending = StepsSpent; place = y; made = made }) (ep ∙ now-place h x rooms lw l))
         (q.ours ∙ ap (λ (n : ℕ). q.entries ++ map h.offset (listed h.P rooms n s)) none_left ∙ append-nil q.entries)
         (st.told q.entries q.many q.met)
 
@@ -229,49 +232,51 @@ module _ (text code values₀ inputs out₀ listing : List ℕ) (last : ℕ) (fr
         on-by c mt next tn (gone z et o) = false-true z
 
         -- it ends
-        counted-by : (c : ℕ) → Meets listing common made at c → (n p : ℕ) → t ≡ Over n p true → (r : Marked) → Settles listing n p (made + 1) c r → Turned
+        counted-by : (c : ℕ) → Meets listing common made at c → (u : Halt) → t ≡ Over u → u.counts ≡ true → (r : Marked) → Settles listing u.ending u.place (made + 1) c r → Turned
             → ComesBeside h.P h.R h.offset rooms steps (s₀ h x rooms lw l) after out' listing r
-        counted-by c mt n p tn r st (on e j et de b lv o) = apart (cc)
-        counted-by c mt n p tn r st (over n' p' b et lv o) =
-            let counts : b ≡ true = cc in
-            let number : n ≡ n' = cc in
-            let place : p ≡ told h.offset n' p' = cc in
-            let stops = subst (λ (y : Bool). take_step h.P rooms (S h x rooms lw l) ≡ stopping y n' p' (state_in h.P h.R (cells_of after) q.d m.next (made_with y made) out')) counts o in
+        counted-by c mt u tn uc r st (on e j et de b lv o) = apart (cc)
+        counted-by c mt u tn uc r st (over n' p' b et lv o) =
+            let same : u ≡ halt n' (told h.offset (ending_number n') p') b = cc in
+            let counts : b ≡ true = sym (ap (λ (w : Halt). w.counts) same) ∙ uc in
+            let number : u.ending ≡ n' = ap (λ (w : Halt). w.ending) same in
+            let place : u.place ≡ told h.offset (ending_number n') p' = ap (λ (w : Halt). w.place) same in
+            let stops = subst (λ (y : Bool). take_step h.P rooms (S h x rooms lw l) ≡ stopping y (ending_number n') p' (state_in h.P h.R (cells_of after) q.d m.next (made_with y made) out')) counts o in
             comes-beside h.P h.R h.offset rooms steps (s₀ h x rooms lw l) after out' listing r
             n' p' q.d m.next (made + 1) entries q.deep lv
             (this-step ∙ run-stops h.P rooms (steps - (made + 1)) (S h x rooms lw l) true _ stops)
-            (st.ended ∙ ap₂ (λ (y z : ℕ). record { ending = y; place = z; made = made + 1 }) number place)
+            (st.ended ∙ ap₂ (λ (y : Ending) (z : ℕ). record { ending = y; place = z; made = made + 1 }) number place)
             (entry_listed [] (listed-counted h.P rooms (steps - (made + 1)) (S h x rooms lw l) _ stops) ∙ append-nil entries)
             (st.told entries entries-many (mt.is q.entries q.many q.met))
-        counted-by c mt n p tn r st (gone z et o) = false-true z
+        counted-by c mt u tn uc r st (gone z et o) = false-true z
 
       -- it ends by a step that does not count
-      uncounted-by : (n p : ℕ) → t ≡ Over n p false → (r : Marked) → Settles listing n p made common r → Turned
+      uncounted-by : (u : Halt) → t ≡ Over u → u.counts ≡ false → (r : Marked) → Settles listing u.ending u.place made common r → Turned
           → ComesBeside h.P h.R h.offset rooms steps (s₀ h x rooms lw l) after out' listing r
-      uncounted-by n p tn r st (on e j et de b lv o) = apart (cc)
-      uncounted-by n p tn r st (over n' p' b et lv o) =
-          let counts : b ≡ false = cc in
-          let number : n ≡ n' = cc in
-          let place : p ≡ told h.offset n' p' = cc in
-          let stops = subst (λ (y : Bool). take_step h.P rooms (S h x rooms lw l) ≡ stopping y n' p' (state_in h.P h.R (cells_of after) q.d m.next (made_with y made) out')) counts o in
+      uncounted-by u tn uc r st (on e j et de b lv o) = apart (cc)
+      uncounted-by u tn uc r st (over n' p' b et lv o) =
+          let same : u ≡ halt n' (told h.offset (ending_number n') p') b = cc in
+          let counts : b ≡ false = sym (ap (λ (w : Halt). w.counts) same) ∙ uc in
+          let number : u.ending ≡ n' = ap (λ (w : Halt). w.ending) same in
+          let place : u.place ≡ told h.offset (ending_number n') p' = ap (λ (w : Halt). w.place) same in
+          let stops = subst (λ (y : Bool). take_step h.P rooms (S h x rooms lw l) ≡ stopping y (ending_number n') p' (state_in h.P h.R (cells_of after) q.d m.next (made_with y made) out')) counts o in
           comes-beside h.P h.R h.offset rooms steps (s₀ h x rooms lw l) after out' listing r
           n' p' q.d m.next made q.entries q.deep lv
           (this-step ∙ run-stops h.P rooms (steps - (made + 1)) (S h x rooms lw l) false _ stops)
-          (st.ended ∙ ap₂ (λ (y z : ℕ). record { ending = y; place = z; made = made }) number place)
+          (st.ended ∙ ap₂ (λ (y : Ending) (z : ℕ). record { ending = y; place = z; made = made }) number place)
           (this-listed ∙ ap (λ (y : List ℕ). q.entries ++ map h.offset y) (listed-uncounted h.P rooms (steps - (made + 1)) (S h x rooms lw l) _ stops) ∙ append-nil q.entries)
           (st.told q.entries q.many q.met)
-      uncounted-by n p tn r st (gone z et o) = false-true z
+      uncounted-by u tn uc r st (gone z et o) = false-true z
 
     module _ (at : ℕ) (ea : at ≡ place_at (cells_of code) m.next) where
       pub follow-on : (c : ℕ) → Meets listing common made at c → (next : Machine) → t ≡ On next → Following text code values₀ inputs out₀ listing last from steps after out' next (made + 1) c
       follow-on c mt next tn =
           record { given = g; leaves = turn-leaves; within = omega arith; is = λ h x rooms lw l. on-by h x rooms lw l at ea c mt next tn (turns h x rooms lw l) }
 
-      pub follow-counted : (n p : ℕ) (b : Bool) → t ≡ Over n p b → b ≡ true → (c : ℕ) → Meets listing common made at c → (r : Marked) → Settles listing n p (made + 1) c r
+      pub follow-counted : (u : Halt) → t ≡ Over u → u.counts ≡ true → (c : ℕ) → Meets listing common made at c → (r : Marked) → Settles listing u.ending u.place (made + 1) c r
           → Follows text code values₀ after inputs out₀ out' listing last from steps r
-      follow-counted n p b tn z c mt r st =
-          record { leaves = turn-leaves; is = λ h x rooms lw l. counted-by h x rooms lw l at ea c mt n p (tn ∙ ap (Over n p) z) r st (turns h x rooms lw l) }
+      follow-counted u tn z c mt r st =
+          record { leaves = turn-leaves; is = λ h x rooms lw l. counted-by h x rooms lw l at ea c mt u tn z r st (turns h x rooms lw l) }
 
-    pub follow-uncounted : (n p : ℕ) (b : Bool) → t ≡ Over n p b → b ≡ false → (r : Marked) → Settles listing n p made common r → Follows text code values₀ after inputs out₀ out' listing last from steps r
-    follow-uncounted n p b tn z r st =
-        record { leaves = turn-leaves; is = λ h x rooms lw l. uncounted-by h x rooms lw l n p (tn ∙ ap (Over n p) z) r st (turns h x rooms lw l) }
+    pub follow-uncounted : (u : Halt) → t ≡ Over u → u.counts ≡ false → (r : Marked) → Settles listing u.ending u.place made common r → Follows text code values₀ after inputs out₀ out' listing last from steps r
+    follow-uncounted u tn z r st =
+        record { leaves = turn-leaves; is = λ h x rooms lw l. uncounted-by h x rooms lw l u tn z r st (turns h x rooms lw l) }

@@ -1,5 +1,5 @@
 -- What a run beside a listing promises: how it ends is the run's own promise, and what is told of the listing is the mark of request 14.
-use Rattle.std.specs.Prelude.{◌≡◌, List, [], ◌∷◌, ◌++◌, map, ℕ, length}
+use Rattle.std.specs.Prelude.{◌≡◌, List, [], ◌∷◌, ◌++◌, map, ℕ, Bool, length, if◌then◌else◌}
 use Rattle.paper.specs.Steps.{Program}
 use Rattle.paper.specs.States.{State, Rooms}
 use Rattle.paper.specs.Running.{run, started}
@@ -7,7 +7,8 @@ use Rattle.store_cells.specs.Cells.{cells_of}
 use Rattle.code.specs.Steps.{Head}
 use Rattle.code.specs.Windows.{state_in}
 use Rattle.run_machine.specs.Machine.{Here, LastWindow, Lends}
-use Rattle.run_advancing.specs.declared.Machine.{Machine}
+use Rattle.layout.specs.declared.endings.Ending.{Ending}
+use Rattle.run_errors.specs.declared.Machine.{Machine}
 use Rattle.run_advancing.specs.Turns.{Leaves}
 use Rattle.run_whole.specs.declared.Abort.TheVariants.{Never}
 use Rattle.run_whole.specs.declared.Ended.{Ended}
@@ -19,7 +20,7 @@ abbrev pub ended_of : Marked → Ended
 ended_of r = record { ending = r.ending; place = r.place; made = r.made }
 
 abbrev pub marking_of : Marked → Marking
-marking_of r = record { same = r.same; index = r.index }
+marking_of r = record { same = if r.same then 1 else 0; index = r.index }
 
 -- the largest allowance
 abbrev pub most_steps : ℕ
@@ -29,10 +30,10 @@ most_steps = 4294967295
 pub record Meets (listing : List ℕ) (common made at r : ℕ) : Type 0 where
   pub is : (o : List ℕ) → length o ≡ made → shared o (cells_of listing) ≡ common → shared (o ++ (at ∷ [])) (cells_of listing) ≡ r
 
-pub record Agrees (listing : List ℕ) (common made r : ℕ) : Type 0 where
-  pub is : (o : List ℕ) → length o ≡ made → shared o (cells_of listing) ≡ common → marking o (cells_of listing) ≡ record { same = r; index = common }
+pub record Agrees (listing : List ℕ) (common made : ℕ) (r : Bool) : Type 0 where
+  pub is : (o : List ℕ) → length o ≡ made → shared o (cells_of listing) ≡ common → marking o (cells_of listing) ≡ record { same = if r then 1 else 0; index = common }
 
-pub record Settles (listing : List ℕ) (ending place made common : ℕ) (r : Marked) : Type 0 where
+pub record Settles (listing : List ℕ) (ending : Ending) (place made common : ℕ) (r : Marked) : Type 0 where
   pub ended : ended_of r ≡ record { ending = ending; place = place; made = made }
   pub told : (o : List ℕ) → length o ≡ made → shared o (cells_of listing) ≡ common → marking o (cells_of listing) ≡ marking_of r
 

@@ -1,4 +1,5 @@
 // A run beside a listing that was made elsewhere: how it ends, and how much of the listing is that of its own counted steps.
+// Why its functions take the stores one by one stands in run_machine/src/lib.rt.
 #![tactic(auto)]
 
 ghost use Rattle.std.specs.Prelude.{◌≡◌, ◌<◌};
@@ -7,21 +8,22 @@ ghost use Rattle.run_whole.specs.Runs.{Begins};
 ghost use Rattle.run_marking.specs.Beside.{most_steps, Meets, Agrees, Settles, Follows, RanBeside};
 
 use layout::cells::FIRST_WINDOW;
-use layout::endings;
-use run_advancing::{Machine, Turn, advance};
+use layout::endings::Ending;
+use run_advancing::{Turn, advance};
+use run_errors::Machine;
 use run_whole::{begin, last_window};
 use store_reading::place;
 
 // bytes of an entry
 const ENTRY: usize = 4;
 
-// How a run ended, as `run_whole::Ended` has it; 1 where the listing is that of its counted steps, else 0; and how many entries both have in common at their beginning.
-#[derive(Drop)]
+// How a run ended, as `run_whole::Ended` has it; whether the listing is that of its counted steps; and how many entries both have in common at their beginning.
+#[derive(Clone, Copy, PartialEq, Eq)]
 pub struct Marked {
-    pub ending: u32,
+    pub ending: Ending,
     pub place: usize,
     pub made: u64,
-    pub same: u32,
+    pub same: bool,
     pub index: u32,
 }
 
@@ -43,21 +45,18 @@ fn meet(listing: &[u8], common: u32, made: u32, at: usize) -> u32
     common + 1
 }
 
-// 1 where all of both is common: `made` entries of our own, and the listing.
-fn agree(listing: &[u8], common: u32, made: u32) -> u32
+// All of both is common: `made` entries of our own, and the listing.
+fn agree(listing: &[u8], common: u32, made: u32) -> bool
     ensures { Agrees listing.now common made result }
 {
     if common != made {
-        return 0;
+        return false;
     }
-    if common as usize != listing.len() / ENTRY {
-        return 0;
-    }
-    1
+    common as usize == listing.len() / ENTRY
 }
 
 // What is told of a run that has ended.
-fn settle(listing: &[u8], ending: u32, place: usize, made: u32, common: u32) -> Marked
+fn settle(listing: &[u8], ending: Ending, place: usize, made: u32, common: u32) -> Marked
     ensures { Settles listing.now ending place made common result }
 {
     Marked {
@@ -70,6 +69,7 @@ fn settle(listing: &[u8], ending: u32, place: usize, made: u32, common: u32) -> 
 }
 
 // From step to step, from `from` on, until the run has ended or all are spent. Each counted step is one entry.
+// The count rises behind the step, not before it as a `for`'s would: run_whole::walk says why.
 fn follow<'a>(
     text: &'a [u8],
     code: &'a [u8],
@@ -95,18 +95,18 @@ fn follow<'a>(
                 m = next;
                 made += 1;
             }
-            Turn::Over(ending, offset, counts) => {
-                if counts {
+            Turn::Over(halt) => {
+                if halt.counts {
                     let more = meet(listing, common, made, at);
-                    return settle(listing, ending, offset, made + 1, more);
+                    return settle(listing, halt.ending, halt.place, made + 1, more);
                 }
-                return settle(listing, ending, offset, made, common);
+                return settle(listing, halt.ending, halt.place, made, common);
             }
         }
     }
     settle(
         listing,
-        endings::STEPS_SPENT,
+        Ending::StepsSpent,
         place(code, m.next),
         made,
         common,

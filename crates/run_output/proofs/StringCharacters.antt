@@ -12,20 +12,12 @@ use borrow.Author.Tests.{eq-eqb, ne_eqb}
 use Rattle.laws.proofs.Tests.{test, by_less, apart}
 use Rattle.std.specs.Prelude.{if◌then◌else◌}
 use Rattle.paper.specs.Words.{QUOTE}
+use Rattle.layout.specs.Parts.{width_of}
 use Rattle.paper.specs.Steps.{unquoted}
 use Rattle.run_output.specs.Output.{Copies, Copied, Spelled}
 use Rattle.store_evaluation.specs.Parts.{addresses}
 
 -- ---- characters
-abbrev pub width_of : ℕ → ℕ
-width_of b = if eqb b QUOTE then 2 else 1
-
-pub width-quote : (b : ℕ) → b ≡ 34 → 2 ≡ width_of b
-width-quote b e = rw (eq-eqb b 34 e)
-
-pub width-plain : (b : ℕ) → (b ≡ 34 → ⊥) → 1 ≡ width_of b
-width-plain b d = rw (ne_eqb b 34 d)
-
 pub width_small : (b : ℕ) → (1 ≤ width_of b) × (width_of b ≤ 2)
 width_small b = test (eqb b 34) (λ e. rw e (omega arith)) (λ e. rw e (omega arith))
 

@@ -6,7 +6,7 @@ use Prim.Native.Nat.{ℕ, suc, ◌+◌, ◌-◌, ◌*◌, ◌/◌, ◌%◌, ◌<
 use native.Mathlib.Omega.{arith}
 use lib.Dec.{T}
 use lib.ListN.{length, get_or, drop, set, length-append, length-set, length-map, drop_of_length-le, get_or-map}
-use lib.Seq.{drop-cons, get_or-set_same, get_or-set_other}
+use lib.Seq.{drop-cons}
 use lib.IntN.{ℤ, pos, nat_abs}
 use lib.Signed.{lt_z, le_z, non_neg}
 use mir.Syntax.{w32, w64}
@@ -14,7 +14,7 @@ use mir.Val.{Fits, SFits, to_z, of_z}
 use mir.Facts.{to_z-of_z, to_z_pos}
 use Rattle.paper.specs.Words.{LF, word_limit}
 use Rattle.paper.specs.Numbers.{num, Value, value, error, ranged, overflow}
-use Rattle.paper.specs.Terms.{Ref, Memory, at, fails}
+use Rattle.paper.specs.Terms.{Ref, Memory, at}
 use Rattle.paper.specs.Steps.{read}
 use Rattle.paper.specs.States.{Location, location_of, State, Rooms, Effect, made, failing, lacking, with_output, with_input, go_to, on_top, store_at, memory_of, with_value, with_spot}
 use Rattle.paper.specs.Running.{perform, adding, taking, read_num}

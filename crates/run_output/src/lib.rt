@@ -1,4 +1,5 @@
 // Output: strings, lines, and what is written so far.
+// Why steps take and answer what they do stands in run_machine/src/lib.rt.
 #![tactic(auto)]
 
 ghost use Rattle.std.specs.Prelude.{◌≡◌, ◌++◌, true, false, suc, ◌+◌, ◌-◌, ◌*◌, ◌/◌, ◌%◌, ◌<◌, ◌≤◌, eqb, length, take, drop, if◌then◌else◌};
@@ -37,17 +38,8 @@ fn set_count(values: &mut [u8], cell: usize, n: usize)
     store_cells::put(values, cell + 1, (n / HALF) as u32);
 }
 
-// How many bytes a character takes that begins with b: a quote stands twice.
-fn width(b: u8) -> usize
-    ensures { result ≡ (if eqb b QUOTE then 2 else 1) }
-{
-    if b == b'"' {
-        return 2;
-    }
-    1
-}
-
-// So many bytes of a text to the front of what is lent.
+// So many bytes of a text to the front of what is lent. Byte by byte: copy_from_slice compares addresses, and the library for the page, whose pointers have four bytes, admits none
+// that does (host/retarget).
 fn copy_plain<'a>(text: &'a [u8], out: &'a mut [u8], count: usize)
     requires { (count ≤ length text.now) × (count ≤ length out.old) }
     ensures { out.new ≡ take count text.now ++ drop count out.old }
@@ -59,7 +51,7 @@ fn copy_plain<'a>(text: &'a [u8], out: &'a mut [u8], count: usize)
     }
 }
 
-// So many characters of a text to the front of what is lent.
+// So many characters of a text to the front of what is lent. There are two counts, and one goes on by 1 or 2 as the byte says: no iterator is plainer.
 fn copy_quoted<'a>(text: &'a [u8], out: &'a mut [u8], count: usize)
     requires { Copies text.now out.old count }
     ensures { Copied text.now out.old out.new count }
@@ -69,7 +61,7 @@ fn copy_quoted<'a>(text: &'a [u8], out: &'a mut [u8], count: usize)
     while k < count {
         let b = text[p];
         out[k] = b;
-        p += width(b);
+        p += parts::width(b);
         k += 1;
     }
 }
@@ -87,7 +79,7 @@ fn copy<'a>(text: &'a [u8], out: &'a mut [u8], count: usize, bytes: usize)
     }
 }
 
-// How many characters the string at word i has: none where there is no such word.
+// How many characters the string at word i has: none where there is no such word, as value_at says of cells that are not there.
 fn characters(code: &[u8], i: usize) -> usize
     requires { length code.now % 8 ≡ 0 }
     ensures { (result ≡ value_at (cells_of code.now) i / characters_part) × (result < value_end / characters_part) }

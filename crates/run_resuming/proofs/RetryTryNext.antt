@@ -30,7 +30,10 @@ use Rattle.run_machine.proofs.Actions as Actions
 use Rattle.run_machine.proofs.Current.{code_here, step_here, action-here, effect-here, small-name, named-after}
 use Rattle.code.specs.Steps.{a_retry, a_try_next}
 use Rattle.paper.specs.Words.{word_limit}
+use Rattle.std.specs.Prelude.{Some, None}
+use Rattle.run_errors.specs.Taken.{Listed}
 use Rattle.run_errors.proofs.Cases.{none-case, some-case, positive}
+use Rattle.run_errors.proofs.CallsDropped.{none-listed, some-listed}
 
 -- ---- answers
 pub answer-fits : (n : ℕ) → n < word_limit → SFits w64 (pos n)
@@ -51,14 +54,20 @@ module _ (code values : List ℕ) (base i : ℕ) (h : Here code values base i) w
   here-at n e = elsewhere h values h.d base n refl h.deep h.base-is (live-next h.P h.R (cells_of values) h.d i n h.live e)
 
 -- ---- the failed step
-module _ (code values after : List ℕ) (base i f : ℕ) (g : Forgot values after base f) (h : Here code values base i) where
+-- f was the failed step, or 0 where there was none
+record Was (before after : List ℕ) (base f : ℕ) : Type 0 where
+  pub was : f ≡ get_or (cells_of before) (base + failed_cell) 0
+  pub words : cells_of after ≡ set (cells_of before) (base + failed_cell) 0
+  pub long : length after ≡ length before
+
+module _ (code values after : List ℕ) (base i f : ℕ) (g : Was values after base f) (h : Here code values base i) where
   f-is : f ≡ get_or (cells_of values) (window_of h.d + failed_cell) 0
   f-is = g.was ∙ ap (λ (b : ℕ). get_or (cells_of values) (b + failed_cell) 0) h.base-is
 
   words_are : cells_of after ≡ set (cells_of values) (window_of h.d + failed_cell) 0
   words_are = g.words ∙ ap (λ (b : ℕ). set (cells_of values) (b + failed_cell) 0) h.base-is
 
-  pub forgot-keeps : KeepsRun (cells_of values) (cells_of after)
+  forgot-keeps : KeepsRun (cells_of values) (cells_of after)
   forgot-keeps c a b = ap (λ (x : List ℕ). get_or x c 0) words_are ∙ get_or-set_other (cells_of values) (window_of h.d + failed_cell) c 0 0 (λ e. omega (arith, h.deep))
 
   in-store : window_of h.d + failed_cell < length (cells_of values)
@@ -73,10 +82,10 @@ module _ (code values after : List ℕ) (base i f : ℕ) (g : Forgot values afte
   fits-named (none_failed z) d = absurd (d z)
   fits-named (has_failed e) d = e
 
-  pub failed-named : (f ≡ 0 → ⊥) → is_named (code_here code values base i h).steps f ≡ true
+  failed-named : (f ≡ 0 → ⊥) → is_named (code_here code values base i h).steps f ≡ true
   failed-named d = fits-named (subst (FailedFits h.P h.R (cells_of values) h.d) (sym f-is) h.live.top.failed) d
 
-  pub failed-low : (f ≡ 0 → ⊥) → f < word_limit
+  failed-low : (f ≡ 0 → ⊥) → f < word_limit
   failed-low d = (small-name code values base i h f (failed-named d)).1
 
   module _ (rooms : Rooms) (steps : ℕ) (out : List ℕ) where
@@ -86,7 +95,7 @@ module _ (code values after : List ℕ) (base i f : ℕ) (g : Forgot values afte
     unfolding on_top state_in
     stays t e = ap (λ (c : Call). with_calls (c ∷ waiting h.P h.R (cells_of values) h.d) (state_in h.P h.R (cells_of values) h.d i steps out)) e
 
-    pub goes-stay : (t : Call → Call) (E : Effect) → E ≡ made (on_top t (state_in h.P h.R (cells_of values) h.d i steps out))
+    goes-stay : (t : Call → Call) (E : Effect) → E ≡ made (on_top t (state_in h.P h.R (cells_of values) h.d i steps out))
         → t (call_in h.P h.R (cells_of values) (window_of h.d) i) ≡ call_in h.P h.R (cells_of values) (window_of h.d) i → f ≡ 0
         → Comes h.P h.R (cells_of code) h.offset h.d i steps (cells_of values) (cells_of after) out out E (to_z w64 i)
     goes-stay t E e q z =
@@ -105,7 +114,7 @@ module _ (code values after : List ℕ) (base i f : ℕ) (g : Forgot values afte
         goes_to h.P h.R (cells_of after) h.d i steps out n
         ∙ ap (on_top (go_to n)) (ap (λ (x : List ℕ). state_in h.P h.R x h.d i steps out) words_are ∙ call-failed h.P h.R (cells_of values) h.d (roomy h) 0 i steps out)
 
-    pub goes_at : (n : ℕ) (t : Call → Call) (E : Effect) → E ≡ made (on_top t (state_in h.P h.R (cells_of values) h.d i steps out))
+    goes_at : (n : ℕ) (t : Call → Call) (E : Effect) → E ≡ made (on_top t (state_in h.P h.R (cells_of values) h.d i steps out))
         → t (call_in h.P h.R (cells_of values) (window_of h.d) i) ≡ go_to n (set_failed none (call_in h.P h.R (cells_of values) (window_of h.d) i))
         → is_named (code_here code values base i h).steps n ≡ true
         → Comes h.P h.R (cells_of code) h.offset h.d i steps (cells_of values) (cells_of after) out out E (to_z w64 n)
@@ -159,8 +168,8 @@ module _ (code values : List ℕ) (base i : ℕ) (h : Here code values base i) w
       let q = Actions.reads-try-next _ _ _ _ _ _ i s.after s.does (action-here code values base i h) o in
       effect-here code values base i h rooms steps out s.after try_next refl q.does-is
 
-module _ (code values after : List ℕ) (base i f : ℕ) (g : Forgot values after base f) where
-  pub retry-none : Here code values base i → op_at (cells_of code) i ≡ a_retry → f ≡ 0 → Performs code values after base i (to_z w64 i)
+module _ (code values after : List ℕ) (base i f : ℕ) (g : Was values after base f) where
+  retry-none : Here code values base i → op_at (cells_of code) i ≡ a_retry → f ≡ 0 → Performs code values after base i (to_z w64 i)
   retry-none h₀ o z = record {
     long = g.long;
     kept = forgot-keeps code values after base i f g h₀;
@@ -168,7 +177,7 @@ module _ (code values after : List ℕ) (base i f : ℕ) (g : Forgot values afte
         (retry-stays code values after base i f g h _ (not-failed code values after base i f g h z)) z;
   }
 
-  pub retry-again : Here code values base i → op_at (cells_of code) i ≡ a_retry → (f ≡ 0 → ⊥) → Performs code values after base i (to_z w64 f)
+  retry-again : Here code values base i → op_at (cells_of code) i ≡ a_retry → (f ≡ 0 → ⊥) → Performs code values after base i (to_z w64 f)
   retry-again h₀ o d = record {
     long = g.long;
     kept = forgot-keeps code values after base i f g h₀;
@@ -176,7 +185,7 @@ module _ (code values after : List ℕ) (base i f : ℕ) (g : Forgot values afte
         (retry-goes code values after base i f g h _ (has-failed code values after base i f g h d)) (failed-named code values after base i f g h d);
   }
 
-  pub try-none : Here code values base i → op_at (cells_of code) i ≡ a_try_next → f ≡ 0 → Performs code values after base i (to_z w64 i)
+  try-none : Here code values base i → op_at (cells_of code) i ≡ a_try_next → f ≡ 0 → Performs code values after base i (to_z w64 i)
   try-none h₀ o z = record {
     long = g.long;
     kept = forgot-keeps code values after base i f g h₀;
@@ -185,7 +194,7 @@ module _ (code values after : List ℕ) (base i f : ℕ) (g : Forgot values afte
   }
 
   -- the failed step as what comes after it is asked of
-  pub failed-step : Here code values base i → (f ≡ 0 → ⊥) → StepAt code f
+  failed-step : Here code values base i → (f ≡ 0 → ⊥) → StepAt code f
   failed-step h d =
       let k = here-at code values base i h f (failed-named code values after base i f g h d) in
       let s = step_here code values base f k in
@@ -213,10 +222,10 @@ module _ (code values after : List ℕ) (base i f : ℕ) (g : Forgot values afte
         let k = here-at code values base i h f (failed-named code values after base i f g h d) in
         subst (λ (j : ℕ). is_named (code_here code values base i h).steps j ≡ true) (sym (a.is (failed-step h d))) (named-after code values base f k)
 
-    pub next_low : Here code values base i → (f ≡ 0 → ⊥) → n < word_limit
+    next_low : Here code values base i → (f ≡ 0 → ⊥) → n < word_limit
     next_low h d = (small-name code values base i h n (next-named h d)).1
 
-    pub try-again : Here code values base i → op_at (cells_of code) i ≡ a_try_next → (f ≡ 0 → ⊥) → Performs code values after base i (to_z w64 n)
+    try-again : Here code values base i → op_at (cells_of code) i ≡ a_try_next → (f ≡ 0 → ⊥) → Performs code values after base i (to_z w64 n)
     try-again h₀ o d = record {
       long = g.long;
       kept = forgot-keeps code values after base i f g h₀;
@@ -224,3 +233,38 @@ module _ (code values after : List ℕ) (base i f : ℕ) (g : Forgot values afte
           (try-goes code values after base i f g h h.P _ (has-failed code values after base i f g h d) ∙ ap (λ (j : ℕ). go_to j (set_failed none (call_in h.P h.R (cells_of values) (window_of h.d) i))) (sym (next-is h d)))
           (next-named h d);
     }
+
+-- ---- the same by what is answered of the failed step
+module _ (code values after : List ℕ) (base i : ℕ) (r : Listed) (g : Forgot values after base r) where
+  module _ (e : r ≡ None) where
+    was-none : Was values after base 0
+    was-none = record { was = sym (none-listed _ (sym g.was ∙ e)); words = g.words; long = g.long }
+
+    pub retries-none : Here code values base i → op_at (cells_of code) i ≡ a_retry → Performs code values after base i (to_z w64 i)
+    retries-none h o = retry-none code values after base i 0 was-none h o refl
+
+    pub tries-none : Here code values base i → op_at (cells_of code) i ≡ a_try_next → Performs code values after base i (to_z w64 i)
+    tries-none h o = try-none code values after base i 0 was-none h o refl
+
+  module _ (f : ℕ) (e : r ≡ Some f) where
+    was-step : (f ≡ get_or (cells_of values) (base + failed_cell) 0) × (f ≡ 0 → ⊥)
+    was-step = some-listed _ f (sym g.was ∙ e)
+
+    was-some : Was values after base f
+    was-some = record { was = was-step.0; words = g.words; long = g.long }
+
+    pub step-fits : Here code values base i → SFits w64 (pos f)
+    step-fits h = answer-fits f (failed-low code values after base i f was-some h was-step.1)
+
+    pub retries-some : Here code values base i → op_at (cells_of code) i ≡ a_retry → Performs code values after base i (to_z w64 f)
+    retries-some h o = retry-again code values after base i f was-some h o was-step.1
+
+    pub step-at : Here code values base i → StepAt code f
+    step-at h = failed-step code values after base i f was-some h was-step.1
+
+    module _ (n : ℕ) (a : After code f n) where
+      pub next-fits : Here code values base i → SFits w64 (pos n)
+      next-fits h = answer-fits n (next_low code values after base i f was-some n a h was-step.1)
+
+      pub tries-some : Here code values base i → op_at (cells_of code) i ≡ a_try_next → Performs code values after base i (to_z w64 n)
+      tries-some h o = try-again code values after base i f was-some n a h o was-step.1

@@ -8,6 +8,7 @@ use Rattle.code.specs.Cells.{link_at}
 use Rattle.code.specs.Steps.{Head, any_arguments, action_in}
 use Rattle.code.specs.Windows.{failed_cell}
 use Rattle.run_machine.specs.Machine.{store_bytes}
+use Rattle.run_errors.specs.Taken.{Listed, listed}
 
 -- ---- the step after a step
 -- Arguments stand from `first` on, the first one up to `end`. The word that closes them has a link.
@@ -43,8 +44,8 @@ pub record After (code : List ℕ) (i r : ℕ) : Type 0 where
   pub is : (s : StepAt code i) → r ≡ s.next
 
 -- ---- the failed step
--- The call with its window at `base` is in its ERROR list no more: r was its failed step.
-pub record Forgot (before after : List ℕ) (base r : ℕ) : Type 0 where
-  pub was : r ≡ get_or (cells_of before) (base + failed_cell) 0
+-- The call with its window at `base` is in its ERROR list no more: r was its failed step, if it had one.
+pub record Forgot (before after : List ℕ) (base : ℕ) (r : Listed) : Type 0 where
+  pub was : r ≡ listed (get_or (cells_of before) (base + failed_cell) 0)
   pub words : cells_of after ≡ set (cells_of before) (base + failed_cell) 0
   pub long : length after ≡ length before

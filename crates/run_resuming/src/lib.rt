@@ -1,4 +1,5 @@
 // RETRY and TRYNEXT: how a run goes on after an error.
+// Why steps take and answer what they do stands in run_machine/src/lib.rt.
 #![tactic(auto)]
 
 ghost use Rattle.std.specs.Prelude.{◌≡◌, ◌+◌, ◌*◌, ◌≤◌, length};
@@ -13,7 +14,7 @@ use layout::cells::FAILED;
 use layout::{ops, parts};
 use store_reading::{head, link};
 
-// The word that closes the arguments from `first` on, the first of which ends at `end`.
+// The word that closes the arguments from `first` on, the first of which ends at `end`. A walk along links, no count.
 fn closing(code: &[u8], first: usize, end: usize) -> usize
     requires { Closes code.now first end }
     ensures { Closing code.now first end result }
@@ -45,34 +46,35 @@ fn after(code: &[u8], i: usize) -> usize
     }
 }
 
-// The failed step of a call, which is in its ERROR list no more.
-fn forget(values: &mut [u8], base: usize) -> usize
+// The failed step of a call, if it has one: it is in its ERROR list no more.
+fn forget(values: &mut [u8], base: usize) -> Option<usize>
     requires { (base + failed_cell) * 4 + 4 ≤ length values.old }
     ensures { Forgot values.old values.new base result }
 {
     let f = store_cells::get(values, base + FAILED);
     store_cells::put(values, base + FAILED, 0);
-    f as usize
+    if f == 0 {
+        return None;
+    }
+    Some(f as usize)
 }
 
 pub fn retry<'a>(code: &'a [u8], values: &'a mut [u8], base: usize, i: usize) -> i64
     requires { Here code.now values.old base i × (op_at (cells_of code.now) i ≡ a_retry) }
     ensures { Performs code.now values.old values.new base i result }
 {
-    let f = forget(values, base);
-    if f == 0 {
-        return i as i64;
+    match forget(values, base) {
+        Some(f) => f as i64,
+        None => i as i64,
     }
-    f as i64
 }
 
 pub fn try_next<'a>(code: &'a [u8], values: &'a mut [u8], base: usize, i: usize) -> i64
     requires { Here code.now values.old base i × (op_at (cells_of code.now) i ≡ a_try_next) }
     ensures { Performs code.now values.old values.new base i result }
 {
-    let f = forget(values, base);
-    if f == 0 {
-        return i as i64;
+    match forget(values, base) {
+        Some(f) => after(code, f) as i64,
+        None => i as i64,
     }
-    after(code, f) as i64
 }

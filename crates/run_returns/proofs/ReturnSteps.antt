@@ -28,6 +28,7 @@ use Rattle.code.specs.Windows.{waits_cell, after_cell, result_cell, result_in, c
 use Rattle.store_evaluation.specs.Answers.{first_error, Stands, Evaluated}
 use Rattle.store_reading.specs.Reading.{Stored}
 use Rattle.run_machine.specs.Live.{slots_of_call, cell_of_call, code_of_call, ResultFits, nowhere, in_module, in_caller, Waits, Live}
+use Rattle.layout.specs.declared.endings.Ending.TheVariants.{MainReturned}
 use Rattle.run_machine.specs.Machine.{Here, Comes, leaves, ends, effect_at, KeepsRun, Performs, Says}
 use Rattle.run_targets.specs.Targets.{ref_cell, RefFits}
 use Rattle.run_returns.specs.Returning.{Gave, Returns, by_return, by_end}
@@ -199,7 +200,7 @@ module _ (code values : List ℕ) (base i : ℕ) where
       → Comes h.P h.R (cells_of code) h.offset h.d i steps (cells_of values) (cells_of values) out out E (pos (ended + main_returned))
   unfolding returning waiting
   main_returns h q E r steps out c z =
-      ends 1 refl (omega arith) refl refl (z ∙ ap (λ (x : ℕ). returning h.P c (waiting h.P h.R (cells_of values) x) r (state_in h.P h.R (cells_of values) h.d i steps out)) (no-caller h q))
+      ends MainReturned refl refl refl refl (z ∙ ap (λ (x : ℕ). returning h.P c (waiting h.P h.R (cells_of values) x) r (state_in h.P h.R (cells_of values) h.d i steps out)) (no-caller h q))
 
   -- ---- with nothing
   module _ (rt : Returns (cells_of code) i) where

@@ -1,4 +1,5 @@
 // Returns.
+// Why steps take and answer what they do stands in run_machine/src/lib.rt.
 #![tactic(auto)]
 
 ghost use Rattle.std.specs.Prelude.{◌*◌, ◌≤◌, length};
@@ -14,7 +15,7 @@ use layout::cells::{AFTER, FIRST_WINDOW, RESULT, WINDOW};
 use store_evaluation::worth;
 use store_reading::put;
 
-// A result into the cell that is 1 below; 0 is nowhere.
+// A result into the cell that is 1 below; 0 is nowhere, as the window's cell holds it.
 fn give(values: &mut [u8], cell: usize, v: i64)
     requires { (cell * 4 ≤ length values.old) × SFits w32 v }
     ensures { Gave values.old values.new cell v }

@@ -3,7 +3,7 @@ use mathlib.Core.Path.{◌≡◌, refl, sym, ap, ap₂, subst, subst₂, ◌∙�
 use mathlib.Core.Bool.{Bool}
 use mathlib.Core.List.{List, [], ◌++◌, append_assoc, append-nil}
 use mathlib.Core.Option.{Option, some}
-use Prim.Native.Nat.{ℕ, zero, suc, ◌+◌, ◌-◌, ◌*◌, ◌/◌, ◌%◌, ◌<◌, ◌≤◌}
+use Prim.Native.Nat.{ℕ, zero, suc, ◌+◌, ◌-◌, ◌*◌, ◌/◌, ◌<◌, ◌≤◌}
 use native.Mathlib.Omega.{arith}
 use lib.Dec.{eqb}
 use lib.ListN.{length, get_or, replicate, length-append, length-replicate}
@@ -21,7 +21,7 @@ use Rattle.code.specs.Cells.{op_in, value_in, head_at, op_at, place_at, link_at}
 use Rattle.code.specs.Spans.{bias}
 use Rattle.code.specs.Steps.{parts, a_datum, the_parameters, constant_at}
 use Rattle.code.specs.Holds.{data_in}
-use Rattle.code.specs.Windows.{steps_cell, ends_cell}
+use Rattle.code.specs.Windows.{steps_cell}
 use Rattle.code.proofs.Options.{none-some, same_some, went}
 use Rattle.store_evaluation.proofs.Places.{op-in}
 use Rattle.store_reading.specs.Reading.{half_end, Part, cell_values}

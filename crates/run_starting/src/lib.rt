@@ -20,10 +20,8 @@ fn fill(values: &mut [u8], at: usize, count: usize, v: i64) -> usize
         put(values, at, v);
         return at + 1;
     }
-    let mut k = 0;
-    while k < count {
+    for k in 0..count {
         put(values, at + k, v);
-        k += 1;
     }
     at + count
 }
@@ -33,16 +31,15 @@ fn start_loops(values: &mut [u8], at: usize, fors: usize)
     requires { (at + fors + steps_cell) * 4 ≤ length values.old }
     ensures { Idled values.old values.new at fors }
 {
-    let mut k = 0;
-    while k < fors {
+    for k in 0..fors {
         put(values, at + k, 0);
         put(values, at + k + ENDS, 0);
         put(values, at + k + STEPS, 0);
-        k += 1;
     }
 }
 
 // The words of a new call behind its arguments: its routine's data, which begin at the word `first`, from a cell on, and its FOR variables.
+// Their words are a walk along links, no count.
 pub fn start_words<'a>(code: &'a [u8], values: &'a mut [u8], first: usize, at: usize)
     requires { Starts code.now values.old first at }
     ensures { Started code.now values.old values.new first at }

@@ -20,6 +20,7 @@ use Rattle.store_numbers.proofs.Whole.{read}
 use Rattle.code.specs.Cells.{op_at, value_at, head_at, op_in, value_in}
 use Rattle.code.specs.Steps.{a_target, a_call_target, a_function_end, a_raise, a_return, a_write, an_end, an_exit, an_undo_end}
 use Rattle.code.specs.Windows.{call_in, waiting}
+use Rattle.layout.specs.declared.endings.Ending.TheVariants.{Exited, FellOff}
 use Rattle.run_machine.specs.Machine.{Here, hands, ends, effect_at, Performs, Calls, Steps, Stepped}
 use Rattle.run_targets.specs.Targets.{WordAt, of_module_word, of_call_word, ArrayAt, of_module_array, of_call_array}
 use Rattle.run_returns.specs.Returning.{Returns, by_return, by_end}
@@ -178,10 +179,10 @@ module _ (text code values out : List ℕ) (base last i : ℕ) (s : Steps text c
     pub exits : op_in w ≡ an_exit → (inputs : List ℕ) → Stepped text code values values inputs out out base last i (pos (ended + exited))
     exits o inputs =
         silent text code values values inputs out base last i (pos (ended + exited)) refl (λ c x y. refl) count
-        (λ h t rooms lw l steps. ends exited refl (omega arith) refl refl (exit-ends code values base i h rooms steps out (op-at code base i w ew an_exit o)))
+        (λ h t rooms lw l steps. ends Exited refl refl refl refl (exit-ends code values base i h rooms steps out (op-at code base i w ew an_exit o)))
 
     pub fell-off : NoneOf (op_in w) 26 → (inputs : List ℕ) → Stepped text code values values inputs out out base last i (pos (ended + fell_off))
     fell-off n inputs =
         let m = subst (λ (x : ℕ). NoneOf (op_in x) 26) ew n in
         silent text code values values inputs out base last i (pos (ended + fell_off)) refl (λ c x y. refl) count
-        (λ h t rooms lw l steps. ends fell_off refl (omega arith) refl refl (last-ends code values base i h rooms steps out m))
+        (λ h t rooms lw l steps. ends FellOff refl refl refl refl (last-ends code values base i h rooms steps out m))

@@ -1,4 +1,5 @@
-// One step of the machine, by the op of its word.
+// One step of the machine, by the op of its word. The op is matched as the number that stands in the cell, where an enum would have to be decoded at each step; and a
+// step answers one number (layout/src/answers.rt says why). What steps take: run_machine/src/lib.rt.
 #![tactic(auto)]
 
 ghost use Rattle.run_machine.specs.Machine.{Steps, Stepped};

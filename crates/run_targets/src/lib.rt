@@ -1,4 +1,5 @@
 // Where a target is, and what is stored there.
+// Why steps take and answer what they do stands in run_machine/src/lib.rt.
 #![tactic(auto)]
 
 ghost use Rattle.store_cells.specs.Cells.{cells_of};
@@ -12,7 +13,8 @@ use layout::{ops, parts};
 use store_evaluation::{OUT_OF_BOUND, worth};
 use store_reading::{head, link, put};
 
-// The cell of an element, or an error. Its array's first cell is given, and its size.
+// The cell of an element, or an error. Its array's first cell is given, and its size. store_evaluation::element tests an index in the same two lines, but has what the cell holds
+// for its answer and a word of the store in place of the two numbers: a function of both would be longer than either.
 pub fn element<'a>(
     code: &'a [u8],
     values: &'a [u8],

@@ -2,36 +2,35 @@
 use mathlib.Core.Path.{◌≡◌, refl, sym, ap, subst, ◌∙◌}
 use mathlib.Core.Bool.{true, false}
 use mathlib.Core.List.{List, [], ◌∷◌}
-use mathlib.Core.Option.{Option, none, some}
+use mathlib.Core.Option.{none, some}
 use Prim.Native.Nat.{ℕ, zero, suc, ◌+◌, ◌-◌, ◌<◌, ◌≤◌}
 use native.Mathlib.Omega.{arith}
 use lib.Dec.{T, leb}
-use lib.ListN.{length, get_or}
+use lib.ListN.{get_or}
 use lib.IntN.{ℤ, pos, nat_abs}
-use lib.Signed.{lt_z, le_z, non_neg}
+use lib.Signed.{le_z, non_neg}
 use mir.Syntax.{w64}
 use mir.Val.{Fits, SFits}
 use mir.Facts.{to_z-of_z}
 use borrow.Author.Tests.{leb-false}
 use Rattle.laws.proofs.Tests.{false-true}
 use Rattle.paper.specs.Steps.{Program}
-use Rattle.paper.specs.States.{Call, State, with_calls, go_to}
+use Rattle.paper.specs.States.{Call, with_calls, go_to}
 use Rattle.paper.specs.Running.{code_at}
 use Rattle.paper.specs.Undoing.{dropping}
 use Rattle.store_numbers.proofs.Whole.{read}
 use Rattle.store_cells.specs.Cells.{cells_of, Put}
-use Rattle.store_cells.proofs.Kept.{put-length}
 use Rattle.code.specs.Cells.{window_of, place_at, errno_cell, first_window, window_cells}
-use Rattle.code.specs.Steps.{Head}
 use Rattle.code.specs.Holds.{optionally}
 use Rattle.code.specs.Windows.{waits_cell, call_in, waiting, state_in}
 use Rattle.layout.specs.Answers.{first_error}
 use Rattle.store_reading.specs.Reading.{cell_values}
-use Rattle.run_errors.specs.declared.Taken.{Taken}
+use Rattle.std.specs.Prelude.{Some, None}
+use Rattle.run_errors.specs.Taken.{Taken, listed}
 use Rattle.run_errors.specs.Errors.{HasRoutine, Seeks, Raises}
 use Rattle.run_errors.specs.Errors as errors
 use Rattle.run_errors.proofs.Cases.{none-case, some-case, positive}
-use Rattle.run_errors.proofs.CallsDropped.{word-is, has-routine, seek-first, come, come-above, seek-up, errno-here, raised-cast, raised-sub, raised-small}
+use Rattle.run_errors.proofs.CallsDropped.{word-is, has-routine, seek-first, come, come-above, seek-up, none-listed, some-listed, errno-here, raised-cast, raised-sub, raised-small}
 use Rattle.run_machine.specs.Machine.{Here}
 use Rattle.run_machine.proofs.Living.{live-next}
 use Rattle.run_machine.proofs.Elsewhere.{caller}
@@ -64,80 +63,82 @@ pub record Below (code values : List ℕ) (base i b : ℕ) (h : Here code values
   pub s : ℕ
   pub seeks : Seeks (List Call) (dropping h.P) h.P h.R (cells_of values) h.d i b s
 
--- and u is where the list of that one begins
-pub record Searching (code values : List ℕ) (base b u : ℕ) : Type 0 where
-  pub list : u ≡ undo_at code values b
-  pub below : (i : ℕ) (h : Here code values base i) → Below code values base i b h
+abbrev pub Searching : (code values : List ℕ) (base b : ℕ) → Type 0
+Searching code values base b = (i : ℕ) (h : Here code values base i) → Below code values base i b h
 
 pub stands-routine : (code values : List ℕ) (base : ℕ) → Stands code values base → HasRoutine code values base
 stands-routine code values base s = has-routine code values base s.i s.here
 
-pub search-start : (code values : List ℕ) (base u : ℕ) → u ≡ undo_at code values base → Searching code values base base u
-search-start code values base u e = record { list = e; below = λ i h. record { s = i; seeks = seek-first (List Call) dropping code values base i h } }
+pub search-start : (code values : List ℕ) (base : ℕ) → Searching code values base base
+search-start code values base i h = record { s = i; seeks = seek-first (List Call) dropping code values base i h }
 
-module _ (code values : List ℕ) (base b u : ℕ) (k : Searching code values base b u) where
+module _ (code values : List ℕ) (base b : ℕ) (k : Searching code values base b) where
+  abbrev u : ℕ
+  u = undo_at code values b
+
   module _ (i : ℕ) (h : Here code values base i) where
-    abbrev q : Seeks (List Call) (dropping h.P) h.P h.R (cells_of values) h.d i b (k.below i h).s
-    q = (k.below i h).seeks
+    abbrev q : Seeks (List Call) (dropping h.P) h.P h.R (cells_of values) h.d i b (k i h).s
+    q = (k i h).seeks
 
-    abbrev come-here : Here code values b (k.below i h).s
-    come-here = come (List Call) dropping code values base i b (k.below i h).s h q
+    abbrev come-here : Here code values b (k i h).s
+    come-here = come (List Call) dropping code values base i b (k i h).s h q
 
     -- the list of the call that was come to
-    undo-is : (code_at h.P (call_in h.P h.R (cells_of values) (window_of q.e) (k.below i h).s).routine).undo ≡ optionally u
+    undo-is : (code_at h.P (call_in h.P h.R (cells_of values) (window_of q.e) (k i h).s).routine).undo ≡ optionally u
     unfolding call_in
     undo-is =
-        (routine-holds code values b (k.below i h).s come-here).undo-is
-        ∙ ap (λ (w : ℕ). optionally (place_at (cells_of code) (w + 1))) (sym (word-is code values b (k.below i h).s come-here))
-        ∙ ap optionally (sym k.list)
+        (routine-holds code values b (k i h).s come-here).undo-is
+        ∙ ap (λ (w : ℕ). optionally (place_at (cells_of code) (w + 1))) (sym (word-is code values b (k i h).s come-here))
 
     -- none: the next call up
     above-here : u ≡ 0 → (b ≡ first_window → ⊥)
         → Seeks (List Call) (dropping h.P) h.P h.R (cells_of values) h.d i (b - window_cells) (get_or (cells_of values) (b - window_cells + waits_cell) 0)
     above-here z d =
-        seek-up (List Call) dropping code values base i b (k.below i h).s h q d
-        (dropping-on h.P (call_in h.P h.R (cells_of values) (window_of q.e) (k.below i h).s) (waiting h.P h.R (cells_of values) q.e)
+        seek-up (List Call) dropping code values base i b (k i h).s h q d
+        (dropping-on h.P (call_in h.P h.R (cells_of values) (window_of q.e) (k i h).s) (waiting h.P h.R (cells_of values) q.e)
         (undo-is ∙ ap optionally z ∙ zero-list))
 
   pub search-sub : Stands code values base → (b ≡ first_window → ⊥) → window_cells ≤ b
-  search-sub s d = omega (arith, come-above (List Call) dropping code values base s.i b (k.below s.i s.here).s s.here (q s.i s.here) d)
+  search-sub s d = omega (arith, come-above (List Call) dropping code values base s.i b (k s.i s.here).s s.here (q s.i s.here) d)
 
   pub search-less : Stands code values base → (b ≡ first_window → ⊥) → b - window_cells < b
-  search-less s d = omega (arith, come-above (List Call) dropping code values base s.i b (k.below s.i s.here).s s.here (q s.i s.here) d)
+  search-less s d = omega (arith, come-above (List Call) dropping code values base s.i b (k s.i s.here).s s.here (q s.i s.here) d)
 
-  module _ (z : u ≡ 0) (d : b ≡ first_window → ⊥) where
-    pub search-routine : Stands code values base → HasRoutine code values (b - window_cells)
-    search-routine s =
-        has-routine code values (b - window_cells) (get_or (cells_of values) (b - window_cells + waits_cell) 0)
-        (come (List Call) dropping code values base s.i (b - window_cells) (get_or (cells_of values) (b - window_cells + waits_cell) 0) s.here (above-here s.i s.here z d))
+  -- the call that was come to
+  pub search-routine : Stands code values base → HasRoutine code values b
+  search-routine s = has-routine code values b (k s.i s.here).s (come-here s.i s.here)
 
-    pub search-on : (v : ℕ) → v ≡ undo_at code values (b - window_cells) → Searching code values base (b - window_cells) v
-    search-on v e = record { list = e; below = λ i h. record { s = get_or (cells_of values) (b - window_cells + waits_cell) 0; seeks = above-here i h z d } }
+  module _ (n : listed (undo_at code values b) ≡ None) (d : b ≡ first_window → ⊥) where
+    pub search-on : Searching code values base (b - window_cells)
+    search-on i h = record { s = get_or (cells_of values) (b - window_cells + waits_cell) 0; seeks = above-here i h (none-listed (undo_at code values b) n) d }
 
   -- no call is left
-  pub search-none : u ≡ 0 → b ≡ first_window → Dropped code values base (record { next = 0; base = b })
+  pub search-none : listed (undo_at code values b) ≡ None → b ≡ first_window → Dropped code values base None
   unfolding waiting state_in
-  search-none z m = record {
+  search-none n m = record {
     does = λ i h steps out.
+        let z : undo_at code values b ≡ 0 = none-listed (undo_at code values b) n in
         let e : (q i h).e ≡ 0 = omega (arith, (q i h).base-is) in
-        gone refl m
+        gone refl
         (ap (λ (cs : List Call). with_calls cs (state_in h.P h.R (cells_of values) h.d i steps out))
         ((q i h).rest
-        ∙ dropping-on h.P (call_in h.P h.R (cells_of values) (window_of (q i h).e) (k.below i h).s) (waiting h.P h.R (cells_of values) (q i h).e) (undo-is i h ∙ ap optionally z ∙ zero-list)
+        ∙ dropping-on h.P (call_in h.P h.R (cells_of values) (window_of (q i h).e) (k i h).s) (waiting h.P h.R (cells_of values) (q i h).e) (undo-is i h ∙ ap optionally z ∙ zero-list)
         ∙ ap (λ (j : ℕ). dropping h.P (waiting h.P h.R (cells_of values) j)) e
         ∙ dropping-nobody h.P));
   }
 
   -- its list begins
-  pub search-found : (u ≡ 0 → ⊥) → Dropped code values base (record { next = u; base = b })
+  pub search-found : (u : ℕ) → listed (undo_at code values b) ≡ Some u → Dropped code values base (Some (record { next = u; base = b }))
   unfolding state_in call_in
-  search-found d = record {
+  search-found u n = record {
     does = λ i h steps out.
-        let is : (code_at h.P (call_in h.P h.R (cells_of values) (window_of (q i h).e) (k.below i h).s).routine).undo ≡ some u = undo-is i h ∙ positive u d in
-        begins (q i h).e (omega (arith, d)) (q i h).base-is (omega (arith, (q i h).up, h.deep))
-        (live-next h.P h.R (cells_of values) (q i h).e (k.below i h).s u (q i h).live ((routine-holds code values b (k.below i h).s (come-here i h)).closed.undoes u is))
+        let q' = some-listed (undo_at code values b) u n in
+        let d : u ≡ 0 → ⊥ = q'.1 in
+        let is : (code_at h.P (call_in h.P h.R (cells_of values) (window_of (q i h).e) (k i h).s).routine).undo ≡ some u = undo-is i h ∙ ap optionally (sym q'.0) ∙ positive u d in
+        begins (q i h).e (record { next = u; base = b }) refl (omega (arith, d)) (q i h).base-is (omega (arith, (q i h).up, h.deep))
+        (live-next h.P h.R (cells_of values) (q i h).e (k i h).s u (q i h).live ((routine-holds code values b (k i h).s (come-here i h)).closed.undoes u is))
         (ap (λ (cs : List Call). with_calls cs (state_in h.P h.R (cells_of values) h.d i steps out))
-        ((q i h).rest ∙ dropping-here h.P (call_in h.P h.R (cells_of values) (window_of (q i h).e) (k.below i h).s) (waiting h.P h.R (cells_of values) (q i h).e) u is));
+        ((q i h).rest ∙ dropping-here h.P (call_in h.P h.R (cells_of values) (window_of (q i h).e) (k i h).s) (waiting h.P h.R (cells_of values) (q i h).e) u is));
   }
 
 -- ---- a list is left
@@ -189,13 +190,13 @@ module _ (code values after : List ℕ) (base : ℕ) (r : ℤ) (f : SFits w64 r)
   n : Noted values after r
   n = subst (Noted values after) (to_z-of_z f) noted
 
-  pub left-main : base ≡ first_window → Left code values after base r (record { next = 0; base = base })
+  pub left-main : base ≡ first_window → Left code values after base r None
   unfolding waiting state_in
   left-main m = record {
     notes = n;
     does = λ i h steps out.
         let e : h.d ≡ 0 = omega (arith, h.base-is) in
-        gone refl m
+        gone refl
         (ap (λ (cs : List Call). with_calls cs (state_in h.P h.R (cells_of after) h.d i steps out))
         (ap (λ (j : ℕ). dropping h.P (waiting h.P h.R (cells_of after) j)) e ∙ dropping-nobody h.P));
   }

@@ -1,15 +1,16 @@
 -- What the functions ask and promise by which the calls of an aborted run are dropped.
-use Rattle.std.specs.Prelude.{◌≡◌, true, List, [], ◌∷◌, ℕ, ◌+◌, ◌<◌, length, get_or, ℤ, pos}
+use Rattle.std.specs.Prelude.{◌≡◌, true, List, [], ◌∷◌, ℕ, ◌+◌, ◌<◌, length, get_or, ℤ, pos, Some, None}
 use Rattle.std.specs.Int.Signed.{lt_z}
 use Rattle.paper.specs.Steps.{Program}
 use Rattle.paper.specs.States.{State, with_calls}
 use Rattle.paper.specs.Undoing.{dropping}
 use Rattle.store_cells.specs.Cells.{cells_of, Put}
-use Rattle.code.specs.Cells.{window_of, place_at, first_window, errno_cell}
+use Rattle.code.specs.Cells.{window_of, place_at, errno_cell}
 use Rattle.code.specs.Steps.{Head}
 use Rattle.code.specs.Windows.{routine_cell, call_in, waiting, state_in}
 use Rattle.layout.specs.Answers.{first_error, answers}
-use Rattle.run_errors.specs.declared.Taken.{Taken}
+use Rattle.run_errors.specs.declared.Machine.{Machine}
+use Rattle.run_errors.specs.Taken.{Taken}
 use Rattle.run_machine.specs.Live.{Live}
 use Rattle.run_machine.specs.Machine.{store_bytes, depth_limit, Here}
 
@@ -24,8 +25,8 @@ pub record Stands (code values : List ℕ) (base : ℕ) : Type 0 where
 -- The state that is left, which the value store X holds: no call is live, or the newest begins its UNDO list.
 module _ (P : Program) (R : List Head) (X : List ℕ) (steps : ℕ) (out : List ℕ) where
   pub data Falls (t : Taken) (s : State) : Type 0 where
-    gone : t.next ≡ 0 → t.base ≡ first_window → s ≡ with_calls [] (state_in P R X 0 0 steps out) → Falls t s
-    begins : (c : ℕ) → 0 < t.next → t.base ≡ window_of c → c < depth_limit → Live P R X c t.next → s ≡ state_in P R X c t.next steps out → Falls t s
+    gone : t ≡ None → s ≡ with_calls [] (state_in P R X 0 0 steps out) → Falls t s
+    begins : (c : ℕ) (m : Machine) → t ≡ Some m → 0 < m.next → m.base ≡ window_of c → c < depth_limit → Live P R X c m.next → s ≡ state_in P R X c m.next steps out → Falls t s
 
 -- The calls from the one at `base` on are dropped.
 pub record Dropped (code values : List ℕ) (base : ℕ) (t : Taken) : Type 0 where

@@ -18,7 +18,9 @@ use Rattle.paper.specs.Undoing.{dropping, undoing, aborting, run_abort}
 use Rattle.store_cells.specs.Cells.{cells_of}
 use Rattle.code.specs.Cells.{window_of}
 use Rattle.code.specs.Windows.{state_in}
-use Rattle.layout.specs.Rules.{steps_spent}
+use Rattle.layout.specs.declared.endings.Ending.TheVariants.{StepsSpent}
+use Rattle.layout.specs.Endings.{ending_number}
+use Rattle.layout.proofs.EndingNumbers.{same-ending}
 use Rattle.run_machine.specs.Live.{Live}
 use Rattle.run_machine.specs.Machine.{depth_limit, Here, LastWindow, Lends}
 use Rattle.run_advancing.proofs.Answers.{leaves-then}
@@ -83,7 +85,7 @@ module _ (text code values inputs out : List ℕ) (h n depth : ℕ) (b : Begins 
   H c rooms = Halts false c.P c.R c.offset (run c.P rooms n (Started c)) (cells_of after) out' 0 n w
 
   -- the walk tells how the paper's run ends
-  ending-is : (c : Begins text code values h depth) (rooms : Rooms) → H c rooms → w.ending ≡ (run c.P rooms n (Started c)).ending
+  ending-is : (c : Begins text code values h depth) (rooms : Rooms) → H c rooms → ending_number w.ending ≡ (run c.P rooms n (Started c)).ending
   ending-is c rooms (stands d i de q lv e p s) = e
   ending-is c rooms (falls ab e p g s) = false-true ab
 
@@ -110,13 +112,13 @@ module _ (text code values inputs out : List ℕ) (h n depth : ℕ) (b : Begins 
       run-below g = ran-as (λ c rooms d l. below_plain c.P rooms steps n (Started c) abort allowed at undo e g)
 
       -- it ended before
-      pub run-through : at ≤ steps → (w.ending ≡ steps_spent → ⊥) → Ran text code values after inputs out out' h steps depth abort plain
+      pub run-through : at ≤ steps → (w.ending ≡ StepsSpent → ⊥) → Ran text code values after inputs out out' h steps depth abort plain
       run-through g ns = ran-as (λ c rooms d l.
           at-aborts c.P rooms steps n (Started c) abort allowed at undo e g
-          ∙ aborting-not c.P rooms undo (run c.P rooms n (Started c)) (λ z. ns (ending-is c rooms (so.is c rooms d l) ∙ z)))
+          ∙ aborting-not c.P rooms undo (run c.P rooms n (Started c)) (λ z. ns (same-ending w.ending StepsSpent (ending-is c rooms (so.is c rooms d l) ∙ z))))
 
   -- it is aborted
-  module _ (sp : w.ending ≡ steps_spent) where
+  module _ (sp : w.ending ≡ StepsSpent) where
     pub record Stood (c : Begins text code values h depth) (rooms : Rooms) : Type 0 where
       pub d : ℕ
       pub i : ℕ
@@ -129,7 +131,7 @@ module _ (text code values inputs out : List ℕ) (h n depth : ℕ) (b : Begins 
     stood : (c : Begins text code values h depth) (rooms : Rooms) → H c rooms → Stood c rooms
     stood c rooms (stands d i de q lv e p s) =
         let k : 0 + (n - w.left) ≡ n - w.left = omega arith in
-        record { d = d; i = i; deep = de; base-is = q; live = lv; ending = sym e ∙ sp; state = s ∙ ap (λ (j : ℕ). state_in c.P c.R (cells_of after) d i j out') k }
+        record { d = d; i = i; deep = de; base-is = q; live = lv; ending = sym e ∙ ap ending_number sp; state = s ∙ ap (λ (j : ℕ). state_in c.P c.R (cells_of after) d i j out') k }
     stood c rooms (falls ab e p g s) = false-true ab
 
     abbrev stood-here : (c : Begins text code values h depth) (rooms : Rooms) → (s : Stood c rooms) → Here code after w.base s.i

@@ -13,14 +13,17 @@ use Rattle.paper.specs.Undoing.{dropping, undoing}
 use Rattle.store_cells.specs.Cells.{cells_of}
 use Rattle.code.specs.Cells.{place_at, window_of, first_window}
 use Rattle.code.specs.Steps.{Head}
-use Rattle.code.specs.Windows.{written_cell, call_in, waiting, written_in, state_in}
+use Rattle.code.specs.Windows.{written_cell, call_in, waiting, state_in}
 use Rattle.layout.specs.Parts.{half_part}
-use Rattle.layout.specs.Rules.{aborted}
 use Rattle.run_machine.specs.Live.{Live}
 use Rattle.run_machine.specs.Machine.{depth_limit, Here, LastWindow, Steps}
 use Rattle.run_machine.proofs.Elsewhere.{elsewhere}
 use Rattle.run_output.proofs.OneLine.{count-is}
-use Rattle.run_errors.specs.declared.Taken.{Taken}
+use Rattle.std.specs.Prelude.{Some, None}
+use Rattle.layout.specs.declared.endings.Ending.TheVariants.{Aborted}
+use Rattle.layout.specs.Endings.{ending_number}
+use Rattle.run_errors.specs.Taken.{Taken}
+use Rattle.run_errors.specs.declared.Machine.{Machine}
 use Rattle.run_undoing.specs.Dropping as drops
 use Rattle.run_undoing.specs.Dropping.{Falls, gone, begins, Dropped}
 use Rattle.run_advancing.specs.Turns.{told, written, Leaves}
@@ -47,7 +50,7 @@ module _ (a : Bool) (P : Program) (R : List Head) (offset : ℕ → ℕ) (all : 
   halts-comes (stands d i de b lv e p s) r re rp rm =
       let k : all.state.steps ≡ before + (steps - w.left) = steps_of d i (before + (steps - w.left)) all.state s in
       record {
-        ending = re ∙ e;
+        ending = ap ending_number re ∙ e;
         place = rp ∙ p;
         made = rm ∙ sym k;
         state = standing d i de lv (s ∙ ap (λ (j : ℕ). state_in P R (cells_of after) d i j out) (sym k));
@@ -55,7 +58,7 @@ module _ (a : Bool) (P : Program) (R : List Head) (offset : ℕ → ℕ) (all : 
   halts-comes (falls ab e p g s) r re rp rm =
       let k : all.state.steps ≡ before + (steps - w.left) = steps-gone (before + (steps - w.left)) all.state s in
       record {
-        ending = re ∙ e ∙ sym g;
+        ending = ap ending_number (re ∙ e) ∙ sym g;
         place = rp ∙ p ∙ sym (ap (λ (n : ℕ). told offset n all.place) g);
         made = rm ∙ sym k;
         state = callless g (s ∙ ap (λ (j : ℕ). with_calls [] (state_in P R (cells_of after) 0 0 j out)) (sym k));
@@ -132,39 +135,47 @@ module _ (text code values out : List ℕ) (base last : ℕ) (st : Strikes text 
     struck i h k = with_calls (dropping h.P (call_in h.P h.R (cells_of values) (window_of h.d) i ∷ waiting h.P h.R (cells_of values) h.d)) (state_in h.P h.R (cells_of values) h.d i k out)
 
     -- no call has one
-    module _ (z : t.next ≡ 0) (inputs : List ℕ) (at most : ℕ) where
+    module _ (z : t ≡ None) (inputs : List ℕ) (at most : ℕ) where
       none-by : (i : ℕ) (h : Here code values base i) (rooms : Rooms) (s : State) → Falls h.P h.R (cells_of values) at out t s
-          → Comes h.P h.R h.offset values out (undoing h.P rooms most s) (record { ending = aborted; place = 0; made = at })
+          → Comes h.P h.R h.offset values out (undoing h.P rooms most s) (record { ending = Aborted; place = 0; made = at })
       unfolding state_in
-      none-by i h rooms s (gone e b q) =
-          subst (λ (x : running.Ended). Comes h.P h.R h.offset values out x (record { ending = aborted; place = 0; made = at }))
+      none-by i h rooms s (gone e q) =
+          subst (λ (x : running.Ended). Comes h.P h.R h.offset values out x (record { ending = Aborted; place = 0; made = at }))
           (sym (ap (undoing h.P rooms most) q ∙ undoing-gone h.P rooms most (state_in h.P h.R (cells_of values) 0 0 at out)))
           (record { ending = refl; place = refl; made = refl; state = callless refl refl })
-      none-by i h rooms s (begins c g b de lv q) = absurd (omega arith)
+      none-by i h rooms s (begins c m e g b de lv q) = let k : None ≡ Some m = sym z ∙ e in cc
 
-      pub undo-none : Undoes text code values values inputs out out base last at most (record { ending = aborted; place = 0; made = at })
+      pub undo-none : Undoes text code values values inputs out out base last at most (record { ending = Aborted; place = 0; made = at })
       undo-none = record { leaves = leaves_nothing values out st.room; is = λ i h x rooms lw l. none-by i h rooms _ (dropped.does i h at out) }
 
     -- the list of a call begins
-    module _ (nz : t.next ≡ 0 → ⊥) where
+    module _ (m : Machine) (tm : t ≡ Some m) where
       pub record Opens (i : ℕ) (h : Here code values base i) (k : ℕ) (s : State) : Type 0 where
         pub c : ℕ
-        pub base-is : t.base ≡ window_of c
+        pub base-is : m.base ≡ window_of c
         pub deep : c < depth_limit
-        pub live : Live h.P h.R (cells_of values) c t.next
-        pub state : s ≡ state_in h.P h.R (cells_of values) c t.next k out
+        pub live : Live h.P h.R (cells_of values) c m.next
+        pub state : s ≡ state_in h.P h.R (cells_of values) c m.next k out
 
       opens : (i : ℕ) (h : Here code values base i) (k : ℕ) (s : State) → Falls h.P h.R (cells_of values) k out t s → Opens i h k s
-      opens i h k s (gone e b q) = absurd (nz e)
-      opens i h k s (begins c g b de lv q) = record { c = c; base-is = b; deep = de; live = lv; state = q }
+      opens i h k s (gone e q) = let z : None ≡ Some m = sym e ∙ tm in cc
+      opens i h k s (begins c j e g b de lv q) =
+          let same : j ≡ m = let z : Some j ≡ Some m = sym e ∙ tm in cc in
+          record {
+            c = c;
+            base-is = sym (ap (λ (y : Machine). y.base) same) ∙ b;
+            deep = de;
+            live = subst (λ (y : Machine). Live h.P h.R (cells_of values) c y.next) same lv;
+            state = q ∙ ap (λ (y : Machine). state_in h.P h.R (cells_of values) c y.next k out) same;
+          }
 
       abbrev opened : (i : ℕ) (h : Here code values base i) (k : ℕ) → Opens i h k (struck i h k)
       opened i h k = opens i h k (struck i h k) (dropped.does i h k out)
 
-      abbrev list-here : (i : ℕ) (h : Here code values base i) (k : ℕ) → Here code values t.base t.next
-      list-here i h k = let o = opened i h k in elsewhere h values o.c t.base t.next refl o.deep o.base-is o.live
+      abbrev list-here : (i : ℕ) (h : Here code values base i) (k : ℕ) → Here code values m.base m.next
+      list-here i h k = let o = opened i h k in elsewhere h values o.c m.base m.next refl o.deep o.base-is o.live
 
-      pub undo-steps : Steps text code values out t.base last t.next
+      pub undo-steps : Steps text code values out m.base last m.next
       undo-steps = record {
         here = list-here st.i st.here 0;
         text-is = st.text-is;
@@ -173,7 +184,7 @@ module _ (text code values out : List ℕ) (base last : ℕ) (st : Strikes text 
         written = subst (λ (k : ℕ). k ≤ length out) (sym (count-is st.here.P st.here.R (cells_of values))) st.room;
       }
 
-      pub undo-walked : (inputs after out' : List ℕ) (at most : ℕ) (w : Walked) → Walks text code values after inputs out out' last (record { next = t.next; base = t.base }) most true w
+      pub undo-walked : (inputs after out' : List ℕ) (at most : ℕ) (w : Walked) → Walks text code values after inputs out out' last m most true w
           → Undoes text code values after inputs out out' base last at most (record { ending = w.ending; place = w.place; made = at + (most - w.left) })
       unfolding goes
       undo-walked inputs after out' at most w k = record {

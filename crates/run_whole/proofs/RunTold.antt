@@ -13,12 +13,13 @@ use Rattle.store_cells.specs.Cells.{cells_of}
 use Rattle.code.specs.Cells.{errno_cell}
 use Rattle.code.specs.Steps.{Head}
 use Rattle.code.specs.Windows.{used_cell, count_at, written_in, state_in}
+use Rattle.layout.specs.Endings.{ending_number}
 use Rattle.run_advancing.specs.Turns.{told, written, Leaves}
 use Rattle.run_whole.specs.declared.Ended.{Ended}
 use Rattle.run_whole.specs.Runs.{EndsIn, standing, callless, Comes}
 
 pub record Told (P : Program) (offset : ℕ → ℕ) (after out out' : List ℕ) (e : running.Ended) (r : Ended) : Type 0 where
-  pub ending : r.ending ≡ e.ending
+  pub ending : ending_number r.ending ≡ e.ending
   pub place : r.place ≡ told offset e.ending e.place
   pub made : r.made ≡ e.state.steps
   pub errno : get_or (cells_of after) errno_cell 0 ≡ e.state.errno

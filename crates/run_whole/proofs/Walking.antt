@@ -17,16 +17,19 @@ use Rattle.store_cells.specs.Cells.{cells_of}
 use Rattle.code.specs.Cells.{window_of, place_at}
 use Rattle.code.specs.Steps.{Head}
 use Rattle.code.specs.Windows.{call_in, state_in}
-use Rattle.layout.specs.Rules as rules
 use Rattle.run_machine.specs.Live.{Live}
 use Rattle.run_machine.specs.Machine.{depth_limit, Here, LastWindow, Lends, Steps}
 use Rattle.run_machine.proofs.Current.{place_here, step-in}
 use Rattle.run_machine.proofs.Elsewhere.{elsewhere}
 use Rattle.run_output.proofs.OneLine.{count-is}
-use Rattle.run_advancing.specs.declared.Machine.{Machine}
+use Rattle.layout.specs.declared.endings.Ending.{Ending}
+use Rattle.layout.specs.declared.endings.Ending.TheVariants.{StepsSpent, UndoSpent, Aborted}
+use Rattle.layout.specs.Endings.{ending_number}
+use Rattle.run_errors.specs.declared.Machine.{Machine}
+use Rattle.run_advancing.specs.declared.Halt.{Halt}
 use Rattle.run_advancing.specs.declared.Turn.{Turn}
 use Rattle.run_advancing.specs.declared.Turn.TheVariants.{On, Over}
-use Rattle.run_advancing.specs.Turns.{turned, told, made_with, Turns, on, over, gone, Leaves, Advances}
+use Rattle.run_advancing.specs.Turns.{halt, turned, told, made_with, Turns, on, over, gone, Leaves, Advances}
 use Rattle.run_advancing.proofs.Answers.{leaves-then, leaves_nothing}
 use Rattle.run_whole.specs.declared.Walked.{Walked}
 use Rattle.run_whole.specs.Walks.{goes, spent_by, left_with, Halts, stands, falls, Walks}
@@ -58,7 +61,7 @@ module _ (P : Program) (rooms : Rooms) (R : List Head) (X : List ℕ) (d i k : �
       steps (stopped c e) = refl
 
   -- no step is left
-  goes_spent : (a : Bool) → goes a P rooms 0 state ≡ record { ending = spent_by a; place = place-next; state = state }
+  goes_spent : (a : Bool) → goes a P rooms 0 state ≡ record { ending = ending_number (spent_by a); place = place-next; state = state }
   unfolding goes run undoing state_in next_place spent_by
   goes_spent false = refl
   goes_spent true = refl
@@ -70,15 +73,15 @@ undoing-gone P rooms zero s = refl
 undoing-gone P rooms (suc n) s = refl
 
 -- ---- spent steps
-pub spent-aborted : (a : Bool) → a ≡ true → rules.undo_spent ≡ spent_by a
+pub spent-aborted : (a : Bool) → a ≡ true → UndoSpent ≡ spent_by a
 unfolding spent_by
 spent-aborted a e = sym (ap spent_by e)
 
-pub spent-plain : (a : Bool) → a ≡ false → rules.steps_spent ≡ spent_by a
+pub spent-plain : (a : Bool) → a ≡ false → StepsSpent ≡ spent_by a
 unfolding spent_by
 spent-plain a e = sym (ap spent_by e)
 
-spent-told : (a : Bool) (offset : ℕ → ℕ) (place : ℕ) → offset place ≡ told offset (spent_by a) place
+spent-told : (a : Bool) (offset : ℕ → ℕ) (place : ℕ) → offset place ≡ told offset (ending_number (spent_by a)) place
 unfolding spent_by
 spent-told false offset place = refl
 spent-told true offset place = refl
@@ -189,7 +192,7 @@ module _ (text code values₀ inputs out₀ : List ℕ) (last : ℕ) (from : Mac
   turn-place = step-in code values m.base m.next turn-here
 
   -- ---- the steps are spent
-  module _ (z : n ≤ 0) (e p : ℕ) (ee : e ≡ spent_by a) (ep : p ≡ place_at (cells_of code) m.next) where
+  module _ (z : n ≤ 0) (e : Ending) (p : ℕ) (ee : e ≡ spent_by a) (ep : p ≡ place_at (cells_of code) m.next) where
     abbrev spent-walk : Walked
     spent-walk = record { ending = e; place = p; base = m.base; left = n }
 
@@ -198,10 +201,10 @@ module _ (text code values₀ inputs out₀ : List ℕ) (last : ℕ) (from : Mac
     spent-by h x rooms lw l before =
         let q = now h x rooms lw l before in
         let none_left : n ≡ 0 = omega arith in
-        let all : All h x rooms lw l before ≡ record { ending = spent_by a; place = at-now h x rooms lw l before; state = S h x rooms lw l before } =
+        let all : All h x rooms lw l before ≡ record { ending = ending_number (spent_by a); place = at-now h x rooms lw l before; state = S h x rooms lw l before } =
         q.rest ∙ ap (λ (j : ℕ). goes a h.P rooms j (S h x rooms lw l before)) none_left
         ∙ goes_spent h.P rooms h.R (cells_of values) q.d m.next (made-now h x rooms lw l before) out a in
-        stands q.d m.next q.deep q.base-is q.live (ee ∙ sym (ap (λ (y : running.Ended). y.ending) all))
+        stands q.d m.next q.deep q.base-is q.live (ap ending_number ee ∙ sym (ap (λ (y : running.Ended). y.ending) all))
         (ep ∙ now-place h x rooms lw l before ∙ spent-told a h.offset (at-now h x rooms lw l before) ∙ sym (ap (λ (y : running.Ended). told h.offset y.ending y.place) all))
         (ap (λ (y : running.Ended). y.state) all)
 
@@ -263,9 +266,9 @@ module _ (text code values₀ inputs out₀ : List ℕ) (last : ℕ) (from : Mac
         next-by (gone ab y oq) = apart (cc)
 
       -- it has ended
-      module _ (e q : ℕ) (c : Bool) (is-over : r ≡ Over e q c) where
+      module _ (s : Halt) (is-over : r ≡ Over s) where
         abbrev over-walk : Walked
-        over-walk = record { ending = e; place = q; base = m.base; left = left_with c n }
+        over-walk = record { ending = s.ending; place = s.place; base = m.base; left = left_with s.counts n }
 
         k-counted : (c : Bool) → made_with c k ≡ before + (steps - left_with c n)
         k-counted true = omega (arith, t.few)
@@ -275,25 +278,27 @@ module _ (text code values₀ inputs out₀ : List ℕ) (last : ℕ) (from : Mac
         unfolding follows goes
         halts_by (on e' j y de b lv oq) = apart (cc)
         halts_by (over e' place c' y lv oq) =
-            let e-is : e ≡ e' = cc in
-            let q-is : q ≡ told h.offset e' place = cc in
-            let c-is : c' ≡ c = cc in
-            let all : All h x rooms lw l before ≡ record { ending = e'; place = place; state = state_in h.P h.R (cells_of after) d m.next (made_with c' k) out' } =
+            let same : s ≡ halt e' (told h.offset (ending_number e') place) c' = cc in
+            let e-is : ending_number s.ending ≡ ending_number e' = ap (λ (w : Halt). ending_number w.ending) same in
+            let q-is : s.place ≡ told h.offset (ending_number e') place = ap (λ (w : Halt). w.place) same in
+            let c-is : c' ≡ s.counts = sym (ap (λ (w : Halt). w.counts) same) in
+            let all : All h x rooms lw l before ≡ record { ending = ending_number e'; place = place; state = state_in h.P h.R (cells_of after) d m.next (made_with c' k) out' } =
             all-is ∙ ap (follows a h.P rooms (n - 1)) oq in
             stands d m.next (now h x rooms lw l before).deep (now h x rooms lw l before).base-is lv (e-is ∙ sym (ap (λ (w : running.Ended). w.ending) all))
             (q-is ∙ sym (ap (λ (w : running.Ended). told h.offset w.ending w.place) all))
             (ap (λ (w : running.Ended). w.state) all ∙ ap (λ (b : Bool). state_in h.P h.R (cells_of after) d m.next (made_with b k) out') c-is
-            ∙ ap (λ (w : ℕ). state_in h.P h.R (cells_of after) d m.next w out') (k-counted c))
+            ∙ ap (λ (w : ℕ). state_in h.P h.R (cells_of after) d m.next w out') (k-counted s.counts))
         halts_by (gone ab y oq) =
-            let e-is : e ≡ rules.aborted = cc in
-            let q-is : q ≡ 0 = cc in
-            let c-is : true ≡ c = cc in
+            let same : s ≡ halt Aborted 0 true = cc in
+            let e-is : s.ending ≡ Aborted = ap (λ (w : Halt). w.ending) same in
+            let q-is : s.place ≡ 0 = ap (λ (w : Halt). w.place) same in
+            let c-is : true ≡ s.counts = sym (ap (λ (w : Halt). w.counts) same) in
             let all : All h x rooms lw l before ≡ aborted (with_calls [] (state_in h.P h.R (cells_of after) 0 0 (k + 1) out')) =
             all-is ∙ ap (follows a h.P rooms (n - 1)) oq ∙ ap (λ (b : Bool). goes b h.P rooms (n - 1) (with_calls [] (state_in h.P h.R (cells_of after) 0 0 (k + 1) out'))) ab
             ∙ undoing-gone h.P rooms (n - 1) (state_in h.P h.R (cells_of after) 0 0 (k + 1) out') in
             falls ab e-is q-is (ap (λ (w : running.Ended). w.ending) all)
             (ap (λ (w : running.Ended). w.state) all ∙ ap (λ (b : Bool). with_calls [] (state_in h.P h.R (cells_of after) 0 0 (made_with b k) out')) c-is
-            ∙ ap (λ (w : ℕ). with_calls [] (state_in h.P h.R (cells_of after) 0 0 w out')) (k-counted c))
+            ∙ ap (λ (w : ℕ). with_calls [] (state_in h.P h.R (cells_of after) 0 0 w out')) (k-counted s.counts))
 
     pub turn_on : (j : Machine) → r ≡ On j → Turning text code values₀ inputs out₀ last from steps a after out' j (n - 1)
     turn_on j e = record { given = g; leaves = step-leaves; few = omega (arith, t.few); is = λ h x rooms lw l before. next-by h x rooms lw l before j e (turns h x rooms lw l before) }
@@ -302,7 +307,7 @@ module _ (text code values₀ inputs out₀ : List ℕ) (last : ℕ) (from : Mac
     fewer-left true = omega (arith, t.few)
     fewer-left false = t.few
 
-    pub turn-over : (e q : ℕ) (c : Bool) → r ≡ Over e q c → (b : ℕ) → b ≡ left_with c n → Walks text code values₀ after inputs out₀ out' last from steps a (record { ending = e; place = q; base = m.base; left = b })
-    turn-over e q c is b eb =
-        subst (λ (y : ℕ). Walks text code values₀ after inputs out₀ out' last from steps a (record { ending = e; place = q; base = m.base; left = y })) (sym eb)
-        (record { leaves = step-leaves; fewer = fewer-left c; is = λ h x rooms lw l before. halts_by h x rooms lw l before e q c is (turns h x rooms lw l before) })
+    pub turn-over : (s : Halt) → r ≡ Over s → (b : ℕ) → b ≡ left_with s.counts n → Walks text code values₀ after inputs out₀ out' last from steps a (record { ending = s.ending; place = s.place; base = m.base; left = b })
+    turn-over s is b eb =
+        subst (λ (y : ℕ). Walks text code values₀ after inputs out₀ out' last from steps a (record { ending = s.ending; place = s.place; base = m.base; left = y })) (sym eb)
+        (record { leaves = step-leaves; fewer = fewer-left s.counts; is = λ h x rooms lw l before. halts_by h x rooms lw l before s is (turns h x rooms lw l before) })

@@ -19,6 +19,7 @@ use Rattle.run_whole.specs.declared.Abort.TheVariants.{Never, At}
 use Rattle.run_whole.specs.declared.Ended.{Ended}
 use Rattle.run_machine.specs.Live.{Live}
 use Rattle.layout.specs.Rules.{aborted}
+use Rattle.layout.specs.Endings.{ending_number}
 use Rattle.run_machine.specs.Machine.{store_bytes, depth_limit, Lends}
 use Rattle.run_advancing.specs.Turns.{told, Leaves}
 
@@ -57,7 +58,7 @@ module _ (P : Program) (R : List Head) (X out : List ℕ) where
 
 -- The answer is the paper's, and so is the state that the lent words hold.
 pub record Comes (P : Program) (R : List Head) (offset : ℕ → ℕ) (after out : List ℕ) (e : running.Ended) (r : Ended) : Type 0 where
-  pub ending : r.ending ≡ e.ending
+  pub ending : ending_number r.ending ≡ e.ending
   pub place : r.place ≡ told offset e.ending e.place
   pub made : r.made ≡ e.state.steps
   pub state : EndsIn P R (cells_of after) out e.ending e.state

@@ -9,10 +9,13 @@ use Rattle.store_cells.specs.Cells.{cells_of}
 use Rattle.code.specs.Cells.{window_of}
 use Rattle.code.specs.Steps.{Head}
 use Rattle.code.specs.Windows.{call_in, waiting, state_in}
-use Rattle.layout.specs.Rules.{steps_spent, aborted, undo_spent}
+use Rattle.layout.specs.Rules.{aborted}
+use Rattle.layout.specs.declared.endings.Ending.{Ending}
+use Rattle.layout.specs.declared.endings.Ending.TheVariants.{StepsSpent, UndoSpent, Aborted}
+use Rattle.layout.specs.Endings.{ending_number}
 use Rattle.run_machine.specs.Live.{Live}
 use Rattle.run_machine.specs.Machine.{depth_limit, Here, LastWindow, Lends}
-use Rattle.run_advancing.specs.declared.Machine.{Machine}
+use Rattle.run_errors.specs.declared.Machine.{Machine}
 use Rattle.run_advancing.specs.Turns.{told, written, Leaves}
 use Rattle.run_whole.specs.declared.Walked.{Walked}
 use Rattle.run_whole.specs.declared.Ended.{Ended}
@@ -24,9 +27,9 @@ goes false P R n s = run P R n s
 goes true P R n s = undoing P R n s
 
 -- what spent steps give
-unfoldable pub spent_by : (is_aborted : Bool) → ℕ
-spent_by false = steps_spent
-spent_by true = undo_spent
+unfoldable pub spent_by : (is_aborted : Bool) → Ending
+spent_by false = StepsSpent
+spent_by true = UndoSpent
 
 abbrev pub left_with : (counts : Bool) → (left : ℕ) → ℕ
 left_with counts n = if counts then n - 1 else n
@@ -36,10 +39,10 @@ left_with counts n = if counts then n - 1 else n
 module _ (is_aborted : Bool) (P : Program) (R : List Head) (offset : ℕ → ℕ) (all : running.Ended) (X out : List ℕ) (before steps : ℕ) (w : Walked) where
   pub data Halts : Type 0 where
     -- at a step of the call with d callers
-    stands : (d i : ℕ) → d < depth_limit → w.base ≡ window_of d → Live P R X d i → w.ending ≡ all.ending → w.place ≡ told offset all.ending all.place
+    stands : (d i : ℕ) → d < depth_limit → w.base ≡ window_of d → Live P R X d i → ending_number w.ending ≡ all.ending → w.place ≡ told offset all.ending all.place
         → all.state ≡ state_in P R X d i (before + (steps - w.left)) out → Halts
     -- it is aborted, and no call is left
-    falls : is_aborted ≡ true → w.ending ≡ aborted → w.place ≡ 0 → all.ending ≡ aborted → all.state ≡ with_calls [] (state_in P R X 0 0 (before + (steps - w.left)) out) → Halts
+    falls : is_aborted ≡ true → w.ending ≡ Aborted → w.place ≡ 0 → all.ending ≡ aborted → all.state ≡ with_calls [] (state_in P R X 0 0 (before + (steps - w.left)) out) → Halts
 
 pub record Walks (text code values after inputs out out' : List ℕ) (last : ℕ) (from : Machine) (steps : ℕ) (is_aborted : Bool) (w : Walked) : Type 0 where
   pub leaves : Leaves values after out out'

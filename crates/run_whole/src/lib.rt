@@ -1,4 +1,5 @@
 // A run: the machine goes from step to step over the code store. One that is aborted goes on with its UNDO lists.
+// Why its functions take the stores one by one stands in run_machine/src/lib.rt.
 #![tactic(auto)]
 
 ghost use Rattle.std.specs.Prelude.{◌≡◌, ◌-◌, ◌<◌, ◌≤◌};
@@ -8,31 +9,32 @@ ghost use Rattle.run_whole.specs.Runs.{allowed_by, MayBegin, Begun, Begins, Ran}
 ghost use Rattle.run_whole.specs.Walks.{spent_by, left_with, Walks, SetsOut, Strikes, Undoes};
 
 use layout::cells::{FIRST_WINDOW, MAIN_ROUTINE, WINDOW};
-use layout::endings;
-use run_advancing::{Machine, Turn, advance};
+use layout::endings::Ending;
+use run_advancing::{Turn, advance};
+use run_errors::Machine;
 use run_starting::start_words;
 use run_undoing::drop_to;
 use store_reading::{link, place};
 
 // Whether a run is aborted: the step K that it is aborted at, and how many steps its UNDO lists may take.
-#[derive(Clone, Copy)]
+#[derive(Clone, Copy, PartialEq, Eq)]
 pub enum Abort {
     Never,
     At(u32, u32),
 }
 
 // How a run ended: the ending, the offset of its place, and how many steps were made.
-#[derive(Drop)]
+#[derive(Clone, Copy, PartialEq, Eq)]
 pub struct Ended {
-    pub ending: u32,
+    pub ending: Ending,
     pub place: usize,
     pub made: u64,
 }
 
 // Where a walk from step to step has ended: the ending, the offset of its place, the window of the newest call, and how many steps are left.
-#[derive(Drop)]
+#[derive(Clone, Copy, PartialEq, Eq)]
 pub struct Walked {
-    pub ending: u32,
+    pub ending: Ending,
     pub place: usize,
     pub base: usize,
     pub left: u32,
@@ -48,13 +50,13 @@ pub fn begin<'a>(code: &'a [u8], values: &'a mut [u8], h: usize)
 }
 
 // The ending that spent steps give: of a run, or of the UNDO lists of an aborted one.
-fn spent(aborted: bool) -> u32
+fn spent(aborted: bool) -> Ending
     ensures { result ≡ spent_by aborted }
 {
     if aborted {
-        return endings::UNDO_SPENT;
+        return Ending::UndoSpent;
     }
-    endings::STEPS_SPENT
+    Ending::StepsSpent
 }
 
 // How many steps are left with one more that counts, or does not.
@@ -70,6 +72,7 @@ fn behind(left: u32, counts: bool) -> u32
 
 // From step to step, until the run has ended or all are spent: of a run, or of the UNDO lists of an aborted one.
 // Both share it: with one place where a step is made the compiler makes its code a part of this loop.
+// The count falls behind the step: one that goes before it, as a `for`'s does, took some 1 % more instructions (D120).
 fn walk<'a>(
     text: &'a [u8],
     code: &'a [u8],
@@ -92,12 +95,12 @@ fn walk<'a>(
                 m = next;
                 left -= 1;
             }
-            Turn::Over(ending, place, counts) => {
+            Turn::Over(halt) => {
                 return Walked {
-                    ending,
-                    place,
+                    ending: halt.ending,
+                    place: halt.place,
                     base: m.base,
-                    left: behind(left, counts),
+                    left: behind(left, halt.counts),
                 };
             }
         }
@@ -164,26 +167,14 @@ fn undo<'a>(
     requires { Strikes text.now code.now values.old out.old base last }
     ensures { Undoes text.now code.now values.old values.new inputs.now out.old out.new base last made most result }
 {
-    let t = drop_to(&*code, &*values, base);
-    let next = t.next;
-    if next == 0 {
+    let Some(first) = drop_to(&*code, &*values, base) else {
         return Ended {
-            ending: endings::ABORTED,
+            ending: Ending::Aborted,
             place: 0,
             made: made as u64,
         };
-    }
-    let w = walk(
-        text,
-        code,
-        values,
-        inputs,
-        out,
-        last,
-        Machine { next, base: t.base },
-        most,
-        true,
-    );
+    };
+    let w = walk(text, code, values, inputs, out, last, first, most, true);
     Ended {
         ending: w.ending,
         place: w.place,
@@ -233,9 +224,9 @@ pub fn run<'a>(
     if steps < at {
         return ended;
     }
-    if w.ending != endings::STEPS_SPENT {
+    let Ending::StepsSpent = w.ending else {
         return ended;
-    }
+    };
     undo(
         text,
         code,

@@ -1,4 +1,5 @@
-// Cells of 32 bits in lent bytes, four each, and fields of 64 bits, eight each: low byte first.
+// Cells of 32 bits in lent bytes, four each, and fields of 64 bits, eight each: low byte first. A host lends the bytes and nothing is allocated: cells, and links between them, are all that the stores have.
+// Byte by byte, which compiles to one load, one store and one fill: copy_from_slice compares addresses, and the library for the page, whose pointers have four bytes, admits none that does (host/retarget).
 #![tactic(auto)]
 
 ghost use Rattle.std.specs.Prelude.{◌≡◌, ◌+◌, ◌*◌, ◌<◌, ◌≤◌, length};

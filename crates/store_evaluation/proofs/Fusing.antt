@@ -1,19 +1,17 @@
 -- An operator that carries its right side.
 use mathlib.Core.Path.{◌≡◌, sym, ap, subst, ◌∙◌}
 use mathlib.Core.List.{List}
-use mathlib.Core.Option.{some}
 use Prim.Native.Nat.{ℕ, ◌/◌, ◌%◌, ◌<◌, ◌≤◌}
 use native.Mathlib.Omega.{arith}
 use lib.IntN.{ℤ}
 use mir.Syntax.{w64}
 use mir.Val.{SFits}
 use mir.Facts.{to_z-of_z}
-use Rattle.paper.specs.Numbers.{Value, value}
-use Rattle.paper.specs.Terms.{Term, worth}
+use Rattle.paper.specs.Numbers.{value}
 use Rattle.store_numbers.proofs.Whole.{read}
 use Rattle.code.specs.Spans.{right_in, operator_of, operators}
 use Rattle.code.proofs.Operands.{by-leaf}
-use Rattle.store_evaluation.specs.Answers.{Gives, memory_of}
+use Rattle.store_evaluation.specs.Answers.{Gives}
 use Rattle.store_evaluation.specs.Parts.{joined, Leaf, Read, Fused}
 use Rattle.store_evaluation.proofs.Operators.{past-last, past_of}
 

@@ -8,7 +8,7 @@ use lib.Dec.{T, eqb, ltb}
 use lib.IntN.{ℤ, pos, negsuc, neg_ℤ, nat_abs, ◌-ℤ◌, +ℤ_idl}
 use lib.Signed.{lt_z, le_z, quot_z, rem_z, mag_rem}
 use mir.Syntax.{w32, w64}
-use mir.Val.{SFits, to_z, of_z}
+use mir.Val.{SFits, to_z, of_z, bool_byte}
 use mir.Facts.{to_z-of_z}
 use borrow.Author.Tests.{eq-eqb, ne_eqb, lt-ltb, le-ltb, ltb-true, ltb-false, le-leb, lt-leb}
 use Rattle.laws.proofs.Tests.{test, by-same}
@@ -60,13 +60,10 @@ not-less (pos a) (negsuc b) = refl
 not-less (negsuc a) (pos b) = refl
 not-less (negsuc a) (negsuc b) = test (ltb a b) (λ t. ap not t ∙ sym (lt-leb b a (ltb-true a b t))) (λ t. ap not t ∙ sym (le-leb b a (ltb-false a b t)))
 
-pub truth-true : (b : Bool) → b ≡ true → pos 1 ≡ truth b
+pub truth_byte : (b : Bool) → to_z w64 (bool_byte b) ≡ truth b
 unfolding truth
-truth-true b h = rw h
-
-pub truth-false : (b : Bool) → b ≡ false → pos 0 ≡ truth b
-unfolding truth
-truth-false b h = rw h
+truth_byte true = refl
+truth_byte false = refl
 
 -- ---- num
 module _ (z : ℤ) (s : SFits w64 z) where

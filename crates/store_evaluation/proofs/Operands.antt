@@ -13,11 +13,11 @@ use lib.Signed.{lt_z, non_neg}
 use mir.Syntax.{w32, w64}
 use mir.Val.{Fits, SFits, to_z}
 use mir.Facts.{to_z-of_z}
-use mir.ValLaws.{to_z_pos, to_z-Fits}
+use mir.ValLaws.{to_z_pos}
 use borrow.Author.Tests.{eq-eqb, ne_eqb, ltb-true, ltb-false, le-leb, lt-leb}
 use Rattle.laws.proofs.Tests.{test, by-same}
 use Rattle.paper.specs.Numbers.{Value, value, error, out_of_bound}
-use Rattle.paper.specs.Terms.{of_module, of_routine, onward, Term, literal, errno, unary, applied, worth, load, at, locate, load_from}
+use Rattle.paper.specs.Terms.{of_module, of_routine, onward, Term, errno, unary, applied, worth, load, locate, load_from}
 use Rattle.store_cells.specs.Cells.{cells_of}
 use Rattle.store_numbers.proofs.Whole.{read, minus-cases}
 use Rattle.code.specs.Cells.{op_in, value_in, errno_cell}

@@ -1,7 +1,7 @@
 -- Operators: from what is worked out with no regard to num to what the paper says that they give.
 use mathlib.Core.Path.{◌≡◌, refl, sym, ap, ap₂, subst, ◌∙◌}
 use mathlib.Core.Bool.{Bool, true, false, not}
-use Prim.Native.Nat.{ℕ, suc, ◌+◌, ◌*◌, ◌<◌, ◌≤◌}
+use Prim.Native.Nat.{ℕ, suc, ◌+◌, ◌<◌, ◌≤◌}
 use native.Mathlib.Omega.{arith}
 use native.Mathlib.Nat.{mul-le-mul}
 use lib.Dec.{T, eqb, ltb}
@@ -11,8 +11,8 @@ use lib.Signed.{lt_z, le_z, quot_z, rem_z, nat_abs-le}
 use mir.Syntax.{w32, w64}
 use mir.Val.{SFits}
 use mir.Facts.{to_z-of_z}
-use borrow.Author.Tests.{ne_eqb, eqb-true, eqb-false, le-leb, lt-leb, lt-ltb, le-ltb}
-use Rattle.laws.proofs.Tests.{test, by_less, by_last}
+use borrow.Author.Tests.{ne_eqb, le-leb, lt-leb, lt-ltb, le-ltb}
+use Rattle.laws.proofs.Tests.{test, by_less, by_last, by-same}
 use Rattle.paper.specs.Sorts.{AND, OR, XOR}
 use Rattle.paper.specs.Numbers as paper
 use Rattle.paper.specs.Numbers.{num, Value, value, error, add, subtract, multiply, divide, modulo, is_zero, same, overflow, div_zero}
@@ -335,14 +335,14 @@ skips-as : (k j : ℕ) → k ≡ j → ((a : ℤ) (b : Value) → known (operato
     → (a : ℤ) (b : Value) → known (operator_of k) (value a) ≡ false → joined (operator_of k) (value a) b ≡ b
 skips-as k j e f a b = subst (λ (i : ℕ). known (operator_of i) (value a) ≡ false → joined (operator_of i) (value a) b ≡ b) (sym e) (f a b)
 
-pub skips-and : (k : ℕ) → k ≡ 12 → Skips k true
-skips-and k e = record { right = λ q. skips-as k 12 e right-of-and; plain = λ q. absurd (subst T q tt) }
-
-pub skips-or : (k : ℕ) → (k ≡ 12 → ⊥) → Skips k (eqb k 13)
-skips-or k n = record {
-  right = λ q. skips-as k 13 (eqb-true k 13 q) right-of-or;
-  plain = λ q a. sym (known-none k a n (eqb-false k 13 q));
+pub skips_is : (k : ℕ) → 12 ≤ k → k ≤ 13 → Skips k true
+skips_is k low high = record {
+  right = λ q. by-same k 12 (λ e. skips-as k 12 e right-of-and) (λ n. skips-as k 13 (omega (arith, n)) right-of-or);
+  plain = λ q. absurd (subst T q tt);
 }
+
+pub skips_none : (k : ℕ) → (k ≡ 12 → ⊥) → (k ≡ 13 → ⊥) → Skips k false
+skips_none k n m = record { right = λ q. absurd (subst T (sym q) tt); plain = λ q a. sym (known-none k a n m) }
 
 -- ---- what an operator gives, by what was worked out
 module _ (number : ℕ) (a b : ℤ) (sa : SFits w64 a) (sb : SFits w64 b) (z : ℤ) (sz : SFits w64 z) (k : Worked number (read a) (read b) z) (t : Bool) (e : t ≡ failing number (read z)) where

@@ -9,7 +9,7 @@ use Rattle.laws.proofs.Tests.{by_less, by-same}
 use Rattle.paper.specs.Terms.{Term}
 use Rattle.store_cells.specs.Cells.{cells_of}
 use Rattle.store_cells.proofs.Laws.{length-words}
-use Rattle.code.specs.Cells.{op_in, head_at, tail_at, op_at, value_at, place_at, link_at}
+use Rattle.code.specs.Cells.{head_at, tail_at, op_at, value_at, place_at, link_at}
 use Rattle.code.specs.Spans.{a_span, right_in, within, operand_term, right_term}
 use Rattle.code.proofs.Operands.{by-leaf, of-any}
 use Rattle.code.proofs.Spanning.{right-span}

@@ -1,4 +1,5 @@
-// What the low bits of an operator's op say where its right side is one word: which operator it is, and above that the kind of word.
+// What the low bits of an operator's op say where its right side is one word: which operator it is, and above that the kind of word. Each is named, since patterns take
+// names and no sums.
 use layout::{ops, parts};
 
 pub(crate) const SUM_LITERAL: u32 = parts::RIGHT * ops::LITERAL + ops::SUM;

@@ -1,4 +1,5 @@
 // What an expression is worth, worked out from the linked words of the code store in place.
+// Ops and operators are matched as the numbers that stand in the cells: an enum would have to be decoded at each word, and the cells hold numbers still.
 #![tactic(auto)]
 
 ghost use Rattle.std.specs.Prelude.{◌≡◌, true, ◌+◌, ◌<◌, pos};
@@ -22,10 +23,10 @@ mod carried;
 
 // ---- numbers
 
-// a number past the ends of num
+// a number past the ends of num. DIV and MOD by 0 give it, and no Option: as with any other result, one test whether it is in num tells that there is none.
 const BEYOND: i64 = HIGHEST_NUM + 1;
 
-// answers that are errors
+// answers that are errors: a number as layout::answers says, where a Result would be slower
 pub const OVERFLOW: i64 = FIRST_ERROR + store_numbers::ERR_OVERFLOW as i64;
 
 const DIV_ZERO: i64 = FIRST_ERROR + store_numbers::ERR_DIVZERO as i64;
@@ -66,13 +67,11 @@ fn outside(z: i64) -> bool
     HIGHEST_NUM < z
 }
 
+#[tactic(auto, using(crate::proofs::Numbers::truth_byte))]
 fn truth_of(b: bool) -> i64
     ensures { result ≡ truth b }
 {
-    if b {
-        return 1;
-    }
-    0
+    b as i64
 }
 
 // ---- operators
@@ -186,26 +185,22 @@ fn combine(number: u32, a: i64, b: i64) -> i64
 }
 
 // AND and OR, which do without their right side where the left one tells the answer.
+#[tactic(auto, using(crate::proofs::Operators::skips_is, crate::proofs::Operators::skips_none))]
 fn skips(number: u32) -> bool
     ensures { Skips number result }
 {
-    if number == ops::AND {
-        return true;
-    }
-    number == ops::OR
+    matches!(number, ops::AND | ops::OR)
 }
 
 // The left side tells the answer.
 fn is_known(number: u32, a: i64) -> bool
     ensures { result ≡ known (operator_of number) (value a) }
 {
-    if number == ops::AND {
-        return is_zero(a);
+    match number {
+        ops::AND => is_zero(a),
+        ops::OR => !is_zero(a),
+        _ => false,
     }
-    if number == ops::OR {
-        return !is_zero(a);
-    }
-    false
 }
 
 // NOT or a sign before an answer; a parenthesis, as a plus, changes nothing.
@@ -251,7 +246,8 @@ fn leaf(values: &[u8], base: usize, op: u32, v: u32) -> i64
     load(values, cell(base, op, ops::MODULE_SLOT, v as usize))
 }
 
-// What an operator gives that carries its right side: one choice among operators and kinds of right sides, each arm with code of its own.
+// What an operator gives that carries its right side: one choice among operators and kinds of right sides, each arm with code of its own. One call with
+// operator and kind worked out would choose twice.
 fn fused(values: &[u8], base: usize, op: u32, v: u32, a: i64) -> i64
     requires { Stores values.now base × Leaf (right_in op) v × SFits w32 a × (op < 64) }
     ensures { Fused values.now base op v a result }
@@ -435,7 +431,8 @@ fn ends(op: u32, link: usize) -> usize
 
 // ---- spans
 
-// The stores go through the calls of this cycle behind a reference each: a slice is two words, and a function that calls itself would copy both stores' for
+// The stores, the window and the words are no struct, which each contract would take apart again. The stores go through the calls of this cycle behind a reference
+// each: a slice is two words, and a function that calls itself would copy both stores' for
 // each call, where a reference stays in its register. Last goes how many parentheses and braces may still nest: it falls with them, and the words left at
 // each call.
 
@@ -512,6 +509,7 @@ fn short<'a>(
 }
 
 // The operators from `start` on, up to `to`, after an operand that is worth `first`. What fails leaves at once, so that the loop goes on with values only.
+// It is a walk and no count: where the next operator is says a link, so no iterator is plainer.
 #[cycle(enclosed_part_rest_whole)]
 fn rest<'a, 'b>(
     code: &'a &'b [u8],

@@ -1,5 +1,4 @@
 pub mod Whole
-pub mod Tests
 pub mod Outcomes
 pub mod Complement
 pub mod Within

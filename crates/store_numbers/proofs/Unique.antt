@@ -1,22 +1,31 @@
 -- Each promise settles the result: two that it allows are equal.
 use mathlib.Core.Path.{◌≡◌, refl, sym, ap, ap₂, ◌∙◌}
 use Prim.Native.Nat.{ℕ}
+use native.Mathlib.Omega.{arith}
 use lib.IntN.{ℤ}
+use Rattle.std.specs.Prelude.{Ok, Err}
+use Rattle.std.specs.Ordering.{is_lt, is_eq}
+use Rattle.std.specs.declared.cmp.Ordering.{Ordering}
+use Rattle.std.specs.declared.cmp.Ordering.TheVariants.{Less, Equal, Greater}
 use Rattle.paper.specs.Numbers as paper
-use Rattle.store_numbers.specs.Answers.{range_of, value_of, is_below, is_same, NumRange, Held, Sum, Difference, Product, Opposite, Quotient, Remainder, Size, Compared, NumberOf, WordOf}
+use Rattle.store_numbers.specs.Answers.{Num, range_of, value_of, raised_by, NumRange, Held, Sum, Difference, Product, Opposite, Quotient, Remainder, Size, Compared, NumberOf, WordOf}
 use Rattle.store_numbers.specs.declared.Range.{Range}
-use Rattle.store_numbers.specs.declared.Num.{Num}
-use Rattle.store_numbers.specs.declared.Num.TheVariants.{Value, Error}
-use Rattle.store_numbers.specs.declared.Order.{Order}
-use Rattle.store_numbers.specs.declared.Order.TheVariants.{Below, Same, Above}
+use Rattle.store_numbers.specs.declared.ArithmeticError.{ArithmeticError}
+use Rattle.store_numbers.specs.declared.ArithmeticError.TheVariants.{Overflow, DivZero}
 
 -- whatever value v the paper gives
 pub value-unique : (v : paper.Value) (m n : Num) → value_of m ≡ v → value_of n ≡ v → m ≡ n
 unfolding value_of
-value-unique v (Value a) (Value b) p q = ap Value (cc)
-value-unique v (Value a) (Error b) p q = let z : paper.value a ≡ paper.error b = p ∙ sym q in cc
-value-unique v (Error a) (Value b) p q = let z : paper.error a ≡ paper.value b = p ∙ sym q in cc
-value-unique v (Error a) (Error b) p q = ap Error (cc)
+value-unique v (Ok a) (Ok b) p q = ap Ok (cc)
+value-unique v (Ok a) (Err b) p q = let z : paper.value a ≡ paper.error (raised_by b) = p ∙ sym q in cc
+value-unique v (Err a) (Ok b) p q = let z : paper.error (raised_by a) ≡ paper.value b = p ∙ sym q in cc
+value-unique v (Err a) (Err b) p q = ap Err (apart a b (cc))
+  where
+    apart : (a b : ArithmeticError) → raised_by a ≡ raised_by b → a ≡ b
+    apart Overflow Overflow e = refl
+    apart Overflow DivZero e = absurd (omega (arith, e))
+    apart DivZero Overflow e = absurd (omega (arith, e))
+    apart DivZero DivZero e = refl
 
 module _ (r : Range) (a b : ℤ) (m n : Num) where
   pub held-unique : Held r a m → Held r a n → m ≡ n
@@ -58,16 +67,16 @@ number-unique x y z p q = p ∙ sym q
 pub word-unique : (z : ℤ) (x y : ℕ) → WordOf z x → WordOf z y → x ≡ y
 word-unique z x y p q = p ∙ sym q
 
-pub order-unique : (a b : ℤ) (m n : Order) → Compared a b m → Compared a b n → m ≡ n
+pub order-unique : (a b : ℤ) (m n : Ordering) → Compared a b m → Compared a b n → m ≡ n
 order-unique a b m n p q = go m n (sym p.below ∙ q.below) (sym p.same ∙ q.same)
   where
-    go : (m n : Order) → is_below m ≡ is_below n → is_same m ≡ is_same n → m ≡ n
-    go Below Below e d = refl
-    go Below Same e d = cc
-    go Below Above e d = cc
-    go Same Below e d = cc
-    go Same Same e d = refl
-    go Same Above e d = cc
-    go Above Below e d = cc
-    go Above Same e d = cc
-    go Above Above e d = refl
+    go : (m n : Ordering) → is_lt m ≡ is_lt n → is_eq m ≡ is_eq n → m ≡ n
+    go Less Less e d = refl
+    go Less Equal e d = cc
+    go Less Greater e d = cc
+    go Equal Less e d = cc
+    go Equal Equal e d = refl
+    go Equal Greater e d = cc
+    go Greater Less e d = cc
+    go Greater Equal e d = cc
+    go Greater Greater e d = refl

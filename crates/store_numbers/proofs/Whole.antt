@@ -1,31 +1,20 @@
 -- Whole numbers and their sizes, and what of them 64 bits hold.
 use mathlib.Core.Path.{◌≡◌, refl, sym, ap, ◌∙◌}
-use mathlib.Core.Bool.{true, false}
-use Prim.Native.Nat.{ℕ, zero, suc, ◌+◌, ◌-◌, ◌*◌, ◌/◌, ◌%◌, ◌<◌, ◌≤◌}
+use Prim.Native.Nat.{ℕ, zero, suc, ◌-◌, ◌*◌, ◌/◌, ◌%◌, ◌<◌, ◌≤◌}
 use native.Mathlib.Nat.{le_refl, div-le_self, mul-div-le, mod_def, mul-zero, div-lt_iff_lt-mul}
 use native.Mathlib.Omega.{arith}
 use lib.Dec.{ltb}
-use lib.IntN.{ℤ, pos, negsuc, neg_ℤ, nat_abs, sub_ℕ, ◌+ℤ◌, ◌-ℤ◌, ◌*ℤ◌, +ℤ_assoc, neg_ℤ-+ℤ, neg_ℤ-neg_ℤ}
+use lib.IntN.{ℤ, pos, negsuc, neg_ℤ, nat_abs, sub_ℕ, ◌+ℤ◌, ◌-ℤ◌, ◌*ℤ◌, neg_ℤ-+ℤ, neg_ℤ-neg_ℤ}
 use lib.Signed.{mag, quot_z, rem_z, mag_rem}
 use mir.Syntax.{w64}
 use mir.Val.{SFits, to_z, of_z}
 use mir.Facts.{to_z-of_z}
-use borrow.Author.Tests.{ltb-true, ltb-false, lt-ltb, le-ltb}
+use borrow.Author.Tests.{ltb-true, ltb-false}
 use Rattle.laws.proofs.Tests.{test}
-use Rattle.store_numbers.specs.Inner.{fits64}
 
--- the size of the highest i64 and of the lowest, and the two
-abbrev pub top : ℕ
-top = 9223372036854775807
-
+-- the size of the lowest i64
 abbrev pub half : ℕ
 half = 9223372036854775808
-
-abbrev pub lowest : ℤ
-lowest = negsuc top
-
-abbrev pub highest : ℤ
-highest = pos top
 
 -- ---- what the machine reads back of a local that holds z
 
@@ -49,10 +38,6 @@ pub minus-cases : (P : ℤ → Type 0) (a n : ℕ) → (a < n → P (negsuc (n -
 minus-cases P a zero f g = rw (pos-minus a 0 (omega arith)) (g (omega arith))
 minus-cases P a (suc n) f g = sub_cases P a (suc n) f g
 
-pub less-more : (a n : ℕ) → negsuc a -ℤ pos n ≡ negsuc (a + n)
-less-more a zero = sub_cases (λ z. z ≡ negsuc (a + 0)) 0 (suc a) (λ g. ap negsuc (omega arith)) (λ g. absurd (omega arith))
-less-more a (suc n) = ap negsuc (omega arith)
-
 pub mag-abs : (z : ℤ) → mag z ≤ nat_abs z
 mag-abs (pos n) = le_refl n
 mag-abs (negsuc n) = omega arith
@@ -68,51 +53,10 @@ abs-mul (pos a) (negsuc b) = abs_neg (pos (a * suc b))
 abs-mul (negsuc a) (pos b) = abs_neg (pos (suc a * b))
 abs-mul (negsuc a) (negsuc b) = refl
 
--- -n is an i64 exactly where n is at most 2^63
+-- -n is an i64 where n is at most 2^63
 pub mag-neg : (n k : ℕ) → n ≤ suc k → mag (neg_ℤ (pos n)) ≤ k
 mag-neg zero k h = omega arith
 mag-neg (suc n) k h = omega arith
-
-pub mag-neg-over : (n k : ℕ) → suc k < n → k < mag (neg_ℤ (pos n))
-mag-neg-over zero k h = absurd (omega arith)
-mag-neg-over (suc n) k h = omega arith
-
--- ---- an i64
-
-pub is-in : (z : ℤ) → mag z < half → fits64 z ≡ true
-unfolding fits64
-is-in z h = lt-ltb (mag z) half h
-
-pub is-out : (z : ℤ) → half ≤ mag z → fits64 z ≡ false
-unfolding fits64
-is-out z h = le-ltb (mag z) half h
-
-pub in-fits : (z : ℤ) → fits64 z ≡ true → SFits w64 z
-unfolding fits64
-in-fits z e = record { sfits = ltb-true (mag z) half e }
-
-pub out-is : (z : ℤ) → fits64 z ≡ false → half ≤ mag z
-unfolding fits64
-out-is z e = ltb-false (mag z) half e
-
--- ---- turned about: -1 - z has z's bits inverted, so it is as wide
-
-pub turned-mag : (z : ℤ) → mag (negsuc 0 -ℤ z) ≡ mag z
-turned-mag (pos n) = rw (less-more 0 n) (omega arith)
-turned-mag (negsuc n) = sub_cases (λ z. mag z ≡ n) (suc n) 1 (λ g. absurd (omega arith)) (λ g. omega arith)
-
-pub turned-fits : (z : ℤ) → SFits w64 z → SFits w64 (negsuc 0 -ℤ z)
-turned-fits z s = record { sfits = omega (arith, turned-mag z, s.sfits) }
-
-pub turned-sum : (a b : ℤ) → (negsuc 0 -ℤ a) +ℤ b ≡ negsuc 0 -ℤ (a -ℤ b)
-turned-sum a b =
-    +ℤ_assoc (negsuc 0) (neg_ℤ a) b
-    ∙ ap (λ (z : ℤ). negsuc 0 +ℤ (neg_ℤ a +ℤ z)) (sym (neg_ℤ-neg_ℤ b))
-    ∙ ap (λ (z : ℤ). negsuc 0 +ℤ z) (sym (neg_ℤ-+ℤ a (neg_ℤ b)))
-
-pub turned_same : (a b : ℤ) → fits64 ((negsuc 0 -ℤ a) +ℤ b) ≡ fits64 (a -ℤ b)
-unfolding fits64
-turned_same a b = ap (λ (n : ℕ). ltb n half) (ap mag (turned-sum a b) ∙ turned-mag (a -ℤ b))
 
 -- ---- quotient and remainder
 

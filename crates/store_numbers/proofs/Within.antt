@@ -1,6 +1,6 @@
 -- What a caller knows of a number that an operation gave: it is the exact result, it is in the range, and a num fits a word.
 use mathlib.Core.Path.{◌≡◌, ◌∙◌}
-use mathlib.Core.Bool.{true, false}
+use mathlib.Core.Bool.{false}
 use Prim.Native.Nat.{◌≤◌}
 use native.Mathlib.Omega.{arith}
 use lib.IntN.{ℤ, pos, negsuc, nat_abs}
@@ -8,18 +8,18 @@ use lib.Signed.{lt_z}
 use mir.Syntax.{w32}
 use mir.Val.{SFits}
 use borrow.Author.Tests.{ltb-false}
+use Rattle.std.specs.Prelude.{Ok}
 use Rattle.laws.proofs.Tests.{test, apart}
 use Rattle.paper.specs.Numbers as paper
 use Rattle.paper.specs.Numbers.{overflow, ranged, num}
 use Rattle.store_numbers.specs.Answers.{value_of}
-use Rattle.store_numbers.specs.declared.Num.TheVariants.{Value}
 
 pub record Within (R : paper.Range) (exact z : ℤ) : Type 0 where
   pub same : z ≡ exact
   pub low : lt_z z R.low ≡ false
   pub high : lt_z R.high z ≡ false
 
-pub within : (R : paper.Range) (exact z : ℤ) → value_of (Value z) ≡ ranged R exact → Within R exact z
+pub within : (R : paper.Range) (exact z : ℤ) → value_of (Ok z) ≡ ranged R exact → Within R exact z
 unfolding value_of ranged
 within R exact z e =
     test (lt_z exact R.low) (λ l. no (e ∙ rw (l, ranged)))

@@ -1,21 +1,29 @@
--- What the enums and structs of this crate stand for in the paper, and what each function promises.
-use Rattle.std.specs.Prelude.{◌≡◌, Bool, true, false, List, [], ◌∷◌, ℕ, ℤ, nat_abs}
+-- What the types of this crate stand for in the paper, and what each function promises.
+use Rattle.std.specs.Prelude.{◌≡◌, List, [], ◌∷◌, ℕ, ℤ, nat_abs, Result, Ok, Err}
 use Rattle.std.specs.Int.Signed.{lt_z}
 use Rattle.std.specs.Int.{w32}
+use Rattle.std.specs.Ordering.{is_lt, is_eq, is_gt}
+use Rattle.std.specs.declared.cmp.Ordering.{Ordering}
 use Rattle.std.proofs.Common.{to_z, of_z}
 use Rattle.paper.specs.Numbers as paper
 use Rattle.store_numbers.specs.declared.Range.{Range}
-use Rattle.store_numbers.specs.declared.Num.{Num}
-use Rattle.store_numbers.specs.declared.Num.TheVariants.{Value, Error}
-use Rattle.store_numbers.specs.declared.Order.{Order}
-use Rattle.store_numbers.specs.declared.Order.TheVariants.{Below, Same, Above}
+use Rattle.store_numbers.specs.declared.ArithmeticError.{ArithmeticError}
+use Rattle.store_numbers.specs.declared.ArithmeticError.TheVariants.{Overflow, DivZero}
 
 abbrev pub range_of : Range → paper.Range
 range_of r = record { low = r.low; high = r.high }
 
+-- the number of the error in the paper
+abbrev pub raised_by : ArithmeticError → ℕ
+raised_by Overflow = paper.overflow
+raised_by DivZero = paper.div_zero
+
+abbrev pub Num : Type 0
+Num = Result ℤ ArithmeticError
+
 unfoldable pub value_of : Num → paper.Value
-value_of (Value z) = paper.value z
-value_of (Error e) = paper.error e
+value_of (Ok z) = paper.value z
+value_of (Err e) = paper.error (raised_by e)
 
 -- r is the range of num.
 abbrev pub NumRange : Range → Type 0
@@ -58,23 +66,8 @@ NumberOf x z = z ≡ to_z w32 x
 abbrev pub WordOf : (z : ℤ) (x : ℕ) → Type 0
 WordOf z x = x ≡ of_z w32 z
 
-abbrev pub is_below : Order → Bool
-is_below Below = true
-is_below Same = false
-is_below Above = false
-
-abbrev pub is_same : Order → Bool
-is_same Below = false
-is_same Same = true
-is_same Above = false
-
-abbrev pub is_above : Order → Bool
-is_above Below = false
-is_above Same = false
-is_above Above = true
-
 -- How a stands to b: one of the three holds.
-pub record Compared (a b : ℤ) (o : Order) : Type 0 where
-  pub below : lt_z a b ≡ is_below o
-  pub same : paper.same a b ≡ is_same o
-  pub above : lt_z b a ≡ is_above o
+pub record Compared (a b : ℤ) (o : Ordering) : Type 0 where
+  pub below : lt_z a b ≡ is_lt o
+  pub same : paper.same a b ≡ is_eq o
+  pub above : lt_z b a ≡ is_gt o

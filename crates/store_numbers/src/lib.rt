@@ -4,11 +4,12 @@
 // result once. They wait for dnum (request 8), whose products leave 64 bits (D57).
 #![tactic(auto)]
 
-ghost use Rattle.std.specs.Prelude.{◌≡◌, ◌+ℤ◌, ◌-ℤ◌, ◌*ℤ◌};
-ghost use Rattle.store_numbers.specs.Answers.{NumRange, error_numbers, Held, Sum, Difference, Product, Opposite, Quotient, Remainder, Size, Compared, NumberOf, WordOf};
-ghost use Rattle.store_numbers.specs.Inner.{fits64, Limit};
+ghost use Rattle.std.specs.Prelude.{◌≡◌};
+ghost use Rattle.store_numbers.specs.Answers.{NumRange, error_numbers, raised_by, Held, Sum, Difference, Product, Opposite, Quotient, Remainder, Size, Compared, NumberOf, WordOf};
 
-// The numbers of the paper's errors. Those that arithmetic raises:
+use std::cmp::Ordering;
+
+// The numbers of the paper's errors, which a module's statements see, so that cells hold them as numbers. Those that arithmetic raises:
 pub const ERR_OVERFLOW: u32 = 1001;
 
 pub const ERR_DIVZERO: u32 = 1002;
@@ -23,43 +24,33 @@ pub const LOWEST_NUM: i64 = -8388607;
 
 pub const HIGHEST_NUM: i64 = 8388608;
 
-// The ends of an i64.
-const LOWEST: i64 = -9223372036854775808;
-
-const HIGHEST: i64 = 9223372036854775807;
-
-// The size of each.
-const MOST_BELOW: u64 = 9223372036854775808;
-
-const MOST_ABOVE: u64 = 9223372036854775807;
-
-// Two sizes up to this have a product that is an i64.
-const SMALL: u64 = 2147483648;
-
-// The first word whose number is below zero, and how many words there are.
-const FIRST_BELOW: u32 = 2147483648;
-
-const WORDS: i64 = 4294967296;
-
 // A range, by its two ends.
-#[derive(Drop)]
+#[derive(Clone, Copy, PartialEq, Eq)]
 pub struct Range {
     pub low: i64,
     pub high: i64,
 }
 
-// What an operation gives: a number, or the number of the error that it raises.
-#[derive(Drop)]
-pub enum Num {
-    Value(i64),
-    Error(u32),
+// Why an operation has no number.
+#[derive(Clone, Copy, PartialEq, Eq)]
+pub enum ArithmeticError {
+    Overflow,
+    DivZero,
 }
 
-#[derive(Drop)]
-pub enum Order {
-    Below,
-    Same,
-    Above,
+// What an operation gives: a number, or the error that it raises.
+pub type Num = Result<i64, ArithmeticError>;
+
+impl ArithmeticError {
+    // The number that a module's statements see.
+    pub fn number(self) -> u32
+        ensures { result ≡ raised_by self }
+    {
+        match self {
+            ArithmeticError::Overflow => ERR_OVERFLOW,
+            ArithmeticError::DivZero => ERR_DIVZERO,
+        }
+    }
 }
 
 // The range of num.
@@ -84,102 +75,45 @@ pub fn ranged(r: Range, z: i64) -> Num
     ensures { Held r z result }
 {
     if z < r.low {
-        return Num::Error(ERR_OVERFLOW);
+        return Err(ArithmeticError::Overflow);
     }
     if r.high < z {
-        return Num::Error(ERR_OVERFLOW);
+        return Err(ArithmeticError::Overflow);
     }
-    Num::Value(z)
-}
-
-// a + b is an i64.
-fn sum_fits(a: i64, b: i64) -> bool
-    ensures { result ≡ fits64 (a +ℤ b) }
-{
-    if 0 <= b {
-        return a <= HIGHEST - b;
-    }
-    LOWEST - b <= a
-}
-
-// a - b is an i64: as wide as -1 - (a - b), which is the sum of -1 - a and b.
-fn difference_fits(a: i64, b: i64) -> bool
-    ensures { result ≡ fits64 (a -ℤ b) }
-{
-    sum_fits(-1 - a, b)
+    Ok(z)
 }
 
 // The size of a number. That of the lowest i64 is no i64.
 pub fn size(a: i64) -> u64
     ensures { Size a result }
 {
-    if a < 0 {
-        return (-1 - a) as u64 + 1;
-    }
-    a as u64
+    a.unsigned_abs()
 }
 
-// The largest size of a product with these signs that is an i64: below zero there is one more.
-fn limit(a: i64, b: i64) -> u64
-    ensures { Limit a b result }
-{
-    if a < 0 {
-        if b < 0 {
-            return MOST_ABOVE;
-        }
-        return MOST_BELOW;
-    }
-    if b < 0 {
-        return MOST_BELOW;
-    }
-    MOST_ABOVE
-}
-
-// a * b is an i64: told by the sizes, and by a division only where one of them is large.
-fn product_fits(a: i64, b: i64) -> bool
-    ensures { result ≡ fits64 (a *ℤ b) }
-{
-    let x = size(a);
-    let y = size(b);
-    if y <= SMALL {
-        if x <= SMALL {
-            return true;
-        }
-    }
-    if y == 0 {
-        return true;
-    }
-    x <= limit(a, b) / y
-}
+// add, subtract and multiply are two lines each: one function over a closure would be no plainer, since each has a promise of its own.
 
 // The exact sum, held to the range.
 pub fn add(r: Range, a: i64, b: i64) -> Num
     ensures { Sum r a b result }
 {
-    if sum_fits(a, b) {
-        return ranged(r, a + b);
-    }
-    Num::Error(ERR_OVERFLOW)
+    let exact = a.checked_add(b).ok_or(ArithmeticError::Overflow)?;
+    ranged(r, exact)
 }
 
 // The exact difference, held to the range.
 pub fn subtract(r: Range, a: i64, b: i64) -> Num
     ensures { Difference r a b result }
 {
-    if difference_fits(a, b) {
-        return ranged(r, a - b);
-    }
-    Num::Error(ERR_OVERFLOW)
+    let exact = a.checked_sub(b).ok_or(ArithmeticError::Overflow)?;
+    ranged(r, exact)
 }
 
 // The exact product, held to the range.
 pub fn multiply(r: Range, a: i64, b: i64) -> Num
     ensures { Product r a b result }
 {
-    if product_fits(a, b) {
-        return ranged(r, a * b);
-    }
-    Num::Error(ERR_OVERFLOW)
+    let exact = a.checked_mul(b).ok_or(ArithmeticError::Overflow)?;
+    ranged(r, exact)
 }
 
 // -a, held to the range.
@@ -194,7 +128,7 @@ pub fn divide(r: Range, a: i64, b: i64) -> Num
     ensures { Quotient r a b result }
 {
     if b == 0 {
-        return Num::Error(ERR_DIVZERO);
+        return Err(ArithmeticError::DivZero);
     }
     if b == -1 {
         return minus(r, a);
@@ -207,7 +141,7 @@ pub fn modulo(r: Range, a: i64, b: i64) -> Num
     ensures { Remainder r a b result }
 {
     if b == 0 {
-        return Num::Error(ERR_DIVZERO);
+        return Err(ArithmeticError::DivZero);
     }
     if b == -1 {
         return ranged(r, 0);
@@ -216,36 +150,22 @@ pub fn modulo(r: Range, a: i64, b: i64) -> Num
 }
 
 // How a stands to b.
-pub fn compare(a: i64, b: i64) -> Order
+pub fn compare(a: i64, b: i64) -> Ordering
     ensures { Compared a b result }
 {
-    if a < b {
-        return Order::Below;
-    }
-    if b < a {
-        return Order::Above;
-    }
-    Order::Same
+    a.cmp(&b)
 }
 
-// A word's number, in two's complement: one move with the sign, for the number goes through 32 bits.
+// A word's number, in two's complement.
 pub fn number_of(x: u32) -> i64
     ensures { NumberOf x result }
 {
-    let z = if x < FIRST_BELOW {
-        x as i32
-    } else {
-        (x as i64 - WORDS) as i32
-    };
-    z as i64
+    x.cast_signed() as i64
 }
 
 // A number's word, in two's complement.
 pub fn to_word(z: i32) -> u32
     ensures { WordOf z result }
 {
-    if z < 0 {
-        return (z as i64 + WORDS) as u32;
-    }
-    z as u32
+    z.cast_unsigned()
 }

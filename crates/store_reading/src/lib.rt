@@ -1,4 +1,4 @@
-// What the two stores say.
+// What the two stores say: a word's parts are parts of two cells (store_cells), so they are numbers, and a link is an index.
 #![tactic(auto)]
 
 ghost use Rattle.std.specs.Prelude.{◌≡◌, ◌+◌, ◌*◌, ◌≤◌, length, get_or};

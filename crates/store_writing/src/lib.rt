@@ -1,4 +1,5 @@
-// The words of the code store, two cells each, written by their parts.
+// The words of the code store, two cells each, written by their parts. The parts are numbers given one by one: a struct of them would be no plainer, since most writes
+// change one part and keep the others.
 #![tactic(auto)]
 
 ghost use Rattle.std.specs.Prelude.{◌≡◌, ◌+◌, ◌*◌, ◌<◌, ◌≤◌, length};

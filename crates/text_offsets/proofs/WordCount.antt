@@ -1,5 +1,5 @@
 -- Words counted down to the one that is asked for.
-use mathlib.Core.Path.{◌≡◌, refl, sym, ap, ◌∙◌}
+use mathlib.Core.Path.{◌≡◌, sym, ap, ◌∙◌}
 use mathlib.Core.List.{List, [], ◌∷◌}
 use mathlib.Core.Option.{Option, none, some}
 use Prim.Native.Nat.{ℕ, suc, ◌-◌, ◌<◌, ◌≤◌}
@@ -8,18 +8,16 @@ use lib.Dec.{ltb}
 use lib.ListN.{length}
 use borrow.Author.Tests.{lt-ltb, le-ltb, ltb-true, ltb-false}
 use Rattle.laws.proofs.Tests.{test}
-use mathlib.Core.Logic.{◌⊎◌, inl, inr}
-use denote.Enum.Declared.{tag_of}
-use Rattle.text_words.specs.contracts.Step.{the_type}
 use Rattle.paper.specs.Words as paper
 use Rattle.paper.specs.Words.{Refusal, Reading, reading, no_words, with_word}
 use Rattle.paper.specs.Names.{nth}
 use Rattle.paper.specs.Answer.{offset_of}
 use Rattle.text_words.specs.declared.Word.{Word}
 use Rattle.text_words.specs.declared.Cursor.{Cursor}
-use Rattle.text_words.specs.declared.Step.{Step}
-use Rattle.text_words.specs.declared.Step.TheVariants as steps
-use Rattle.text_words.specs.Answers.{Started, Stepped, left_of}
+use Rattle.std.specs.Prelude as code
+use Rattle.std.specs.Prelude.{None, Some, Ok, Err}
+use Rattle.text_words.specs.declared.Refusal as refusals
+use Rattle.text_words.specs.Answers.{as_refusal, Step, Started, Stepped, left_of}
 use Rattle.text_words.proofs.Readings.{Gives, step_gives, step-ends, step-refuses, start_left}
 use Rattle.text_offsets.specs.Offsets.{Offset}
 
@@ -51,9 +49,9 @@ more-there text w r i =
     no_less h = omega arith
 
 module _ (text : List ℕ) (i : ℕ) (c : Cursor) (before : ℕ) (at : Counts text i c before) (r : Step) (is : Stepped text c r) where
-  module _ (w : Word) (d : Cursor) (e : r ≡ steps.Word w d) where
+  module _ (o : code.Option (Word × Cursor)) (e : r ≡ Ok o) (w : Word) (d : Cursor) (g : o ≡ Some (w, d)) where
     gives : Gives text c w d
-    gives = step_gives text c r is w d e
+    gives = step_gives text c r is w d (e ∙ ap Ok g)
 
     left_is : (left_of text c).words ≡ gives.paper-word ∷ (left_of text d).words
     left_is = ap (λ (x : Reading). x.words) gives.given.left ∙ ap (λ (x : Cursor). gives.paper-word ∷ (left_of text x).words) (sym gives.cursor-is)
@@ -76,11 +74,8 @@ module _ (text : List ℕ) (i : ℕ) (c : Cursor) (before : ℕ) (at : Counts te
   past o gone = sym (none-there text before) ∙ ap (λ (x : Reading). offset_of text x.words before) (sym gone) ∙ at.same
 
   -- no word comes
-  pub counts-other : (tag_of the_type r ≡ 1) ⊎ (tag_of the_type r ≡ 2) → Offset text i (length text)
-  counts-other other = by r refl other
-    where
-      by : (x : Step) → r ≡ x → (tag_of the_type x ≡ 1) ⊎ (tag_of the_type x ≡ 2) → Offset text i (length text)
-      by (steps.Word w d) e (inl h) = absurd (omega arith)
-      by (steps.Word w d) e (inr h) = absurd (omega arith)
-      by steps.End e o = past none (step-ends text c r is e)
-      by (steps.Refused k q) e o = past (some (record { number = k; offset = q })) (step-refuses text c r is k q e)
+  pub counts-end : (o : code.Option (Word × Cursor)) → r ≡ Ok o → o ≡ None → Offset text i (length text)
+  counts-end o e g = past none (step-ends text c r is (e ∙ ap Ok g))
+
+  pub counts-refused : (q : refusals.Refusal) → r ≡ Err q → Offset text i (length text)
+  counts-refused q e = past (some (as_refusal q)) (step-refuses text c r is q e)

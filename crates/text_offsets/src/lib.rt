@@ -4,7 +4,7 @@
 
 ghost use Rattle.text_offsets.specs.Offsets.{Offset};
 
-use text_words::{Cursor, Step};
+use text_words::Cursor;
 
 pub fn offset_of(text: &[u8], i: usize) -> usize
     ensures { Offset text.now i result }
@@ -12,7 +12,7 @@ pub fn offset_of(text: &[u8], i: usize) -> usize
     let mut c = Cursor::start();
     let mut before = i;
     loop {
-        let Step::Word(word, next) = c.step(text) else {
+        let Ok(Some((word, next))) = c.step(text) else {
             return text.len();
         };
         if before == 0 {

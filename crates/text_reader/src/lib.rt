@@ -1,5 +1,6 @@
 // The word reader: it holds a lent text and its place there, and reads one word after another. Each of its functions is thin: it takes the reader apart, and
-// the reading of `text_words` does the work on the text and the cursor.
+// the reading of `text_words` does the work on the text and the cursor. A place and how many words came before are plain numbers, for a caller that holds no
+// cursor.
 #![tactic(auto)]
 
 ghost use Rattle.std.specs.Prelude.{◌≡◌};

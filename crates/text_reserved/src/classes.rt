@@ -1,4 +1,4 @@
-// Classes of bytes by comparisons: what names and numbers are made of.
+// Classes of bytes by comparisons: what names and numbers are made of. Each test returns early, as in text_scanner, for the speed of reading.
 ghost use Rattle.std.specs.Prelude.{◌≡◌, ◌||◌, eqb};
 ghost use Rattle.paper.specs.Words.{UNDERSCORE, between, letter, digit, in_name};
 

@@ -17,7 +17,8 @@ ghost use Rattle.text_reserved.specs.Keys.{chosen, candidates, or_else};
 use super::words;
 use super::words::Word;
 
-// The word's sort, if these are its letters behind the first, or else the other. Apart, so that the compiler makes a choice of it and not a jump.
+// The word's sort, if these are its letters behind the first, or else the other. Apart, so that the compiler makes a choice of it and not a jump; so there is
+// also a function for one, two and four words, and no loop over a slice of them.
 fn when(rest: u64, word: Word, other: u32) -> u32
     ensures { result ≡ or_else word rest other }
 {

@@ -55,7 +55,8 @@ fn with_letter(rest: u64, folded: u64) -> u64
     rest % ROOM * BASE + (folded - CAPITAL_A)
 }
 
-// Letters: how many, the first, folded, the number of those behind it, and whether a byte follows that goes on with a name.
+// Letters: how many, the first, folded, the number of those behind it, and whether a byte follows that goes on with a name. Where there is no letter the first
+// is 0: the decision asks for it by length, so an Option would be taken apart for every name.
 #[derive(Drop)]
 struct Letters {
     length: usize,
@@ -64,7 +65,8 @@ struct Letters {
     more: bool,
 }
 
-// The letters that a text begins with, of which the first is one, counted and packed in one loop, since most bytes of a lesson are read here.
+// The letters that a text begins with, of which the first is one, counted and packed in one loop, since most bytes of a lesson are read here. Its index is
+// counted by hand, as in name_length: a `for` over the places takes more instructions a byte.
 fn letters_from(text: &[u8], first: u8) -> Letters
     requires { Begins text.now first }
     ensures { Packs text.now result.length result.first result.rest result.more }

@@ -8,9 +8,9 @@ use lib.ListN.{length, get_or, drop, drop_of_length-le}
 use borrow.Author.Tests.{eq-eqb, ne_eqb}
 use Rattle.laws.proofs.Lists.{rest}
 use Rattle.paper.specs.Words.{permitted_inside, separates, gap, up_to}
-use Rattle.text_scanner.specs.declared.Gap.{Gap}
-use Rattle.text_scanner.specs.declared.Gap.TheVariants.{UpTo, BadByte}
-use Rattle.text_scanner.specs.Answers.{gap_of, Commented}
+use Rattle.std.specs.Prelude.{Ok, Err}
+use Rattle.text_scanner.specs.declared.BadByte.{BadByte}
+use Rattle.text_scanner.specs.Answers.{Gap, gap_of, Commented}
 
 -- What is left of a gap from a place on, in a comment or not.
 pub record Left (comment : Bool) (text : List ℕ) (start place : ℕ) : Type 0 where
@@ -26,12 +26,12 @@ at_byte comment text start place at h = at.left ∙ ap (λ (l : List ℕ). gap c
 
 -- ---- in a comment
 module _ (text : List ℕ) (start place : ℕ) (at : Left true text start place) where
-  pub comment-out : length text ≤ place → Commented text start (UpTo place)
+  pub comment-out : length text ≤ place → Commented text start (Ok place)
   unfolding Commented gap
   comment-out h = (at.from, at.left ∙ rw (drop_of_length-le text h))
 
   module _ (h : place < length text) where
-    pub line-end : get_or text place 0 ≡ 10 → Commented text start (UpTo (place + 1))
+    pub line-end : get_or text place 0 ≡ 10 → Commented text start (Ok (place + 1))
     unfolding Commented gap
     line-end b = (omega (arith, at.from), at_byte true text start place at h ∙ rw (eq-eqb _ 10 b, gap))
 
@@ -43,7 +43,7 @@ module _ (text : List ℕ) (start place : ℕ) (at : Left true text start place)
         left = at_byte true text start place at h ∙ rw (ne_eqb _ 10 b, gap) (rw (sym is ∙ g));
       }
 
-      pub bad : t ≡ false → Commented text start (BadByte place)
+      pub bad : t ≡ false → Commented text start (Err (record { place = place }))
       unfolding Commented gap
       bad g = at_byte true text start place at h ∙ rw (ne_eqb _ 10 b, gap) (rw (sym is ∙ g))
 
@@ -68,16 +68,16 @@ module _ (text : List ℕ) (start place : ℕ) (at : Left false text start place
         unfolding gap
         opened = at_byte false text start place at h ∙ rw (sym is ∙ g, gap) (rw (eq-eqb _ 33 b))
 
-        pub comment-less : r ≡ UpTo p → length text - p < length text - place
+        pub comment-less : r ≡ Ok p → length text - p < length text - place
         unfolding Commented
         comment-less e = let k = subst (λ (x : Gap). Commented text (place + 1) x) e comment in omega (arith, k.0)
 
-        pub comment-passed : r ≡ UpTo p → Left false text start p
+        pub comment-passed : r ≡ Ok p → Left false text start p
         unfolding Commented
         comment-passed e =
             let k = subst (λ (x : Gap). Commented text (place + 1) x) e comment in
             record { from = omega (arith, at.from, k.0); left = opened ∙ k.1 }
 
-        pub comment-bad : r ≡ BadByte p → gap_of r ≡ gap false (drop start text) start
+        pub comment-bad : (bad : BadByte) → r ≡ Err bad → gap_of (Err bad) ≡ gap false (drop start text) start
         unfolding Commented
-        comment-bad e = ap gap_of e ∙ sym (opened ∙ subst (λ (x : Gap). Commented text (place + 1) x) e comment)
+        comment-bad bad e = sym (opened ∙ subst (λ (x : Gap). Commented text (place + 1) x) e comment)

@@ -1,21 +1,27 @@
 -- The paper's case for each answer of the scanner, and what its counts count.
-use Rattle.std.specs.Prelude.{◌≡◌, Bool, true, false, List, [], ◌∷◌, ℕ, zero, suc, ◌+◌, ◌*◌, ◌≤◌, ltb, get_or, take, drop}
+use Rattle.std.specs.Prelude.{◌≡◌, Bool, true, false, List, [], ◌∷◌, ℕ, zero, suc, ◌+◌, ◌*◌, ◌≤◌, ltb, get_or, take, drop, Result, Ok, Err}
 use Rattle.paper.specs.Sorts.{STRING, sign_sort}
 use Rattle.paper.specs.Words as paper
 use Rattle.layout.specs.Rules.{bad_byte}
+use Rattle.layout.specs.Broken.{number_of}
 use Rattle.text_reserved.specs.Runs.{Counted}
-use Rattle.text_scanner.specs.declared.Scan.{Scan}
-use Rattle.text_scanner.specs.declared.Scan.TheVariants.{Word, Refused}
-use Rattle.text_scanner.specs.declared.Gap.{Gap}
-use Rattle.text_scanner.specs.declared.Gap.TheVariants.{UpTo, BadByte}
+use Rattle.text_scanner.specs.declared.Token.{Token}
+use Rattle.text_scanner.specs.declared.Flaw.{Flaw}
+use Rattle.text_scanner.specs.declared.BadByte.{BadByte}
+
+abbrev pub Scan : Type 0
+Scan = Result Token Flaw
 
 abbrev pub scan_of : Scan → paper.Scan
-scan_of (Word sort n v) = paper.word sort n v
-scan_of (Refused after number) = paper.refused number after
+scan_of (Ok t) = paper.word t.sort t.length t.value
+scan_of (Err f) = paper.refused (number_of f.rule) f.after
+
+abbrev pub Gap : Type 0
+Gap = Result ℕ BadByte
 
 abbrev pub gap_of : Gap → paper.Gap
-gap_of (UpTo place) = paper.up_to place
-gap_of (BadByte place) = paper.bad_byte place
+gap_of (Ok place) = paper.up_to place
+gap_of (Err bad) = paper.bad_byte bad.place
 
 -- ---- what is promised
 -- the word that a text begins with
@@ -38,8 +44,8 @@ closed_string n (suc m) = paper.refused bad_byte (suc m)
 
 -- What follows a comment that is open at a place is as if a gap began there anew; or the comment holds a byte that is permitted nowhere.
 unfoldable pub Commented : List ℕ → (at : ℕ) → Gap → Type 0
-Commented text at (UpTo place) = (at ≤ place) × (paper.gap true (drop at text) at ≡ paper.gap false (drop place text) place)
-Commented text at (BadByte place) = paper.gap true (drop at text) at ≡ paper.bad_byte place
+Commented text at (Ok place) = (at ≤ place) × (paper.gap true (drop at text) at ≡ paper.gap false (drop place text) place)
+Commented text at (Err bad) = paper.gap true (drop at text) at ≡ paper.bad_byte bad.place
 
 -- Numbers above the largest are one.
 unfoldable pub capped : ℕ → ℕ

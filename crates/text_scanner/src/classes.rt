@@ -1,4 +1,5 @@
 // Classes of bytes: what the paper says of one byte, by comparisons. Those that most bytes of a lesson pass come first.
+// Each test returns early: as one value of all tests, by || or over patterns, they make reading a string take four fifths more instructions.
 ghost use Rattle.std.specs.Prelude.{◌≡◌, [], ◌∷◌, ◌<◌, ◌≤◌};
 ghost use Rattle.paper.specs.Sorts.{sign_sort};
 ghost use Rattle.paper.specs.Words.{spoils_number, barred_in_string, separates, permitted, permitted_inside};
@@ -73,6 +74,7 @@ pub(crate) fn is_permitted_inside(b: u8) -> bool
     in_range(b, 0xa0, 0xff)
 }
 
+// A sign's sort is the number of the paper's list of signs (sign_sort), in which NOTHING is that of no sign: an Option would say the same twice.
 // The signs of one byte from ( on. Signs of one byte stand in two short ranges, with three bytes after them: a compiler makes a match over a short
 // range a look at a table, and one over all of them a jump, which costs more.
 fn early_sign(b: u8) -> u32

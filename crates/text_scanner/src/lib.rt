@@ -7,27 +7,45 @@ mod number;
 mod sign;
 mod string;
 
+ghost use Rattle.std.specs.Prelude.{◌≡◌};
 ghost use Rattle.text_scanner.specs.Answers.{Scanned, Skipped, Commented};
 
 use classes::{is_permitted_inside, is_separator};
-use layout::rules;
+use layout::rules::Rule;
 use text_reserved::classes::{is_digit, is_letter};
 
-#[derive(Drop)]
-pub enum Scan {
-    // its sort, its length and, of a number, its value
-    Word(u32, usize, u64),
-    // how many bytes after the word's start, and the refusal's number: in this order, since variants that end with fields of one width make the
-    // compiler keep the answer in memory
-    Refused(usize, u32),
+// A word at the front of a text.
+#[derive(Clone, Copy)]
+pub struct Token {
+    pub sort: u32,
+    pub length: usize,
+    // of a number; else 0
+    pub value: u64,
 }
+
+// Why a text begins with no word: the rule that it breaks, so many bytes after its start.
+#[derive(Clone, Copy)]
+pub struct Flaw {
+    pub rule: Rule,
+    pub after: usize,
+}
+
+impl Flaw {
+    fn at_start(rule: Rule) -> Flaw
+        ensures { result ≡ record { after = 0; rule = rule } }
+    {
+        Flaw { after: 0, rule }
+    }
+}
+
+pub type Scan = Result<Token, Flaw>;
 
 // The word that a text begins with. An empty text begins with no permitted byte.
 pub fn scan_word(text: &[u8]) -> Scan
     ensures { Scanned text.now result }
 {
     if text.len() == 0 {
-        return Scan::Refused(0, rules::BAD_BYTE);
+        return Err(Flaw::at_start(Rule::BadByte));
     }
     let b = text[0];
     if is_letter(b) {
@@ -42,15 +60,17 @@ pub fn scan_word(text: &[u8]) -> Scan
     sign::scan_sign(text)
 }
 
-#[derive(Drop)]
-pub enum Gap {
-    // the next word, or the end of the text
-    UpTo(usize),
-    // a byte in a comment that is permitted nowhere
-    BadByte(usize),
+// The place of a byte in a comment that is permitted nowhere.
+#[derive(Clone, Copy)]
+pub struct BadByte {
+    pub place: usize,
 }
 
-// Where a comment ends that is open at a place: after its LF, or at the end of the text.
+// Where the next word starts, or the text ends.
+pub type Gap = Result<usize, BadByte>;
+
+// Where a comment ends that is open at a place: after its LF, or at the end of the text. That place, and a gap's, may lie behind the text, and is answered then,
+// which a `for` over the places would not do.
 fn comment_end(text: &[u8], at: usize) -> Gap
     ensures { Commented text.now at result }
 {
@@ -58,15 +78,15 @@ fn comment_end(text: &[u8], at: usize) -> Gap
     while place < text.len() {
         let b = text[place];
         if b == b'\n' {
-            return Gap::UpTo(place + 1);
+            return Ok(place + 1);
         }
         if is_permitted_inside(b) {
             place += 1;
         } else {
-            return Gap::BadByte(place);
+            return Err(BadByte { place });
         }
     }
-    Gap::UpTo(place)
+    Ok(place)
 }
 
 // What lies before the next word, from a place on: separators and comments.
@@ -80,14 +100,10 @@ pub fn skip_gap(text: &[u8], at: usize) -> Gap
             place += 1;
         } else {
             if b != b'!' {
-                return Gap::UpTo(place);
+                return Ok(place);
             }
-            let g = comment_end(text, place + 1);
-            let Gap::UpTo(after) = g else {
-                return g;
-            };
-            place = after;
+            place = comment_end(text, place + 1)?;
         }
     }
-    Gap::UpTo(place)
+    Ok(place)
 }

@@ -3,8 +3,9 @@ ghost use Rattle.std.specs.Prelude.{◌≡◌};
 ghost use Rattle.paper.specs.Words.{scan_name};
 ghost use Rattle.text_scanner.specs.Answers.{scan_of};
 
-use super::Scan;
-use layout::{limits, rules};
+use super::{Flaw, Scan, Token};
+use layout::limits;
+use layout::rules::Rule;
 use text_reserved::read_name;
 
 pub(crate) fn scan_name(text: &[u8]) -> Scan
@@ -13,8 +14,11 @@ pub(crate) fn scan_name(text: &[u8]) -> Scan
     let n = read_name(text);
     let length = n.length;
     if limits::NAME < length {
-        return Scan::Refused(0, rules::MALFORMED);
+        return Err(Flaw::at_start(Rule::Malformed));
     }
-    let sort = n.sort;
-    Scan::Word(sort, length, 0)
+    Ok(Token {
+        sort: n.sort,
+        length,
+        value: 0,
+    })
 }

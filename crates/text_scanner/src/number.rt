@@ -3,9 +3,10 @@ ghost use Rattle.std.specs.Prelude.{◌≡◌, ◌+◌, ◌*◌, ◌-◌, ◌≤
 ghost use Rattle.paper.specs.Words.{largest_number, spoils_number, scan_number};
 ghost use Rattle.text_scanner.specs.Answers.{scan_of, capped, value_bound, Digits·of};
 
-use super::Scan;
 use super::classes::is_spoiling;
-use layout::{limits, rules};
+use super::{Flaw, Scan, Token};
+use layout::limits;
+use layout::rules::Rule;
 use text_reserved::classes::is_digit;
 
 // Digits: how many, and the number that they write, or some number above the largest in its place.
@@ -26,6 +27,7 @@ fn with_digit(value: u64, b: u8) -> u64
     value * 10 + ((b - b'0') as u64)
 }
 
+// The index is counted by hand: a `for` over the places takes more instructions a byte.
 fn read_digits(text: &[u8]) -> Digits
     ensures { Digits·of text.now result.length result.value }
 {
@@ -60,10 +62,14 @@ pub(crate) fn scan_number(text: &[u8]) -> Scan
     let length = d.length;
     let value = d.value;
     if is_spoiled(text, length) {
-        return Scan::Refused(0, rules::MALFORMED);
+        return Err(Flaw::at_start(Rule::Malformed));
     }
     if limits::NUMBER_READ < value {
-        return Scan::Refused(0, rules::TOO_LARGE);
+        return Err(Flaw::at_start(Rule::TooLarge));
     }
-    Scan::Word(text_sorts::NUMBER, length, value)
+    Ok(Token {
+        sort: text_sorts::NUMBER,
+        length,
+        value,
+    })
 }

@@ -2,9 +2,9 @@
 ghost use Rattle.std.specs.Prelude.{◌≡◌, ◌<◌, length};
 ghost use Rattle.text_scanner.specs.Answers.{scan_of, pair_sort, sign_or_none};
 
-use super::Scan;
 use super::classes::{is_permitted, one_sign, two_signs};
-use layout::rules;
+use super::{Flaw, Scan, Token};
+use layout::rules::Rule;
 
 // The sort of the sign that a text's first two bytes are, or NOTHING. Signs of two bytes begin with a byte from : to >, so after any other first byte the
 // second is not looked at.
@@ -34,14 +34,22 @@ pub(crate) fn scan_sign(text: &[u8]) -> Scan
     let sort = one_sign(text[0]);
     let pair = pair_sort(text);
     if pair != text_sorts::NOTHING {
-        return Scan::Word(pair, 2, 0);
+        return Ok(Token {
+            sort: pair,
+            length: 2,
+            value: 0,
+        });
     }
     if sort != text_sorts::NOTHING {
-        return Scan::Word(sort, 1, 0);
+        return Ok(Token {
+            sort,
+            length: 1,
+            value: 0,
+        });
     }
     // what begins a word is permitted, so only the other bytes are asked
     if is_permitted(text[0]) {
-        return Scan::Refused(0, rules::MALFORMED);
+        return Err(Flaw::at_start(Rule::Malformed));
     }
-    Scan::Refused(0, rules::BAD_BYTE)
+    Err(Flaw::at_start(Rule::BadByte))
 }

@@ -1,9 +1,13 @@
 // The sorts of words by name. A constant has no name in antt, so one function tells them all, and its contract ties them to the paper.
+// Numbers, and no enum: the paper numbers them, text_scanner::scan_word promises these numbers, and cells of lent bytes hold them.
 #![tactic(auto)]
 
 ghost use Rattle.std.specs.Prelude.{◌≡◌};
-ghost use Rattle.paper.specs.Expressions.{starts_data, starts_routine};
+ghost use Rattle.paper.specs.Expressions.{starts_data, starts_routine, starts_simple, starts_statement, level_of};
 ghost use Rattle.text_sorts.specs.Named.{named};
+ghost use Rattle.text_sorts.specs.Starts.{starts_compound};
+
+use layout::levels;
 
 pub const NOTHING: u32 = 0;
 
@@ -269,22 +273,64 @@ fn all() -> [u32; 85]
     ]
 }
 
+// ---- what a word of a sort starts
+
 // A declaration of data begins with a word of that sort.
+#[tactic(auto, unfolding(paper::specs::Expressions::starts_data))]
 pub fn starts_data(s: u32) -> bool
     ensures { result ≡ starts_data s }
 {
-    if s == VAR {
-        return true;
-    }
-    s == CONST
+    matches!(s, VAR | CONST)
 }
 
 // A routine begins with a word of that sort.
+#[tactic(auto, unfolding(paper::specs::Expressions::starts_routine))]
 pub fn starts_routine(s: u32) -> bool
     ensures { result ≡ starts_routine s }
 {
-    if s == PROC {
-        return true;
+    matches!(s, PROC | FUNC)
+}
+
+// A simple statement begins with a word of that sort.
+#[tactic(auto, unfolding(paper::specs::Expressions::starts_simple))]
+pub fn starts_simple(s: u32) -> bool
+    ensures { result ≡ starts_simple s }
+{
+    matches!(
+        s,
+        NAME | RETURN | RAISE | EXIT | RETRY | TRYNEXT | TPWRITE | TPREADNUM
+    )
+}
+
+// A compound statement begins with a word of that sort.
+#[tactic(auto, unfolding(crate::specs::Starts::starts_compound))]
+pub fn starts_compound(s: u32) -> bool
+    ensures { result ≡ starts_compound s }
+{
+    matches!(s, IF | FOR | WHILE | TEST)
+}
+
+// A statement begins with a word of that sort.
+#[tactic(auto, unfolding(paper::specs::Expressions::starts_statement, crate::specs::Starts::starts_compound))]
+pub fn starts_statement(s: u32) -> bool
+    ensures { result ≡ starts_statement s }
+{
+    starts_simple(s) || starts_compound(s)
+}
+
+// ---- operators
+
+// The level of an operator by its sort; none for a word that is no operator.
+#[tactic(auto, unfolding(paper::specs::Expressions::level_of))]
+pub fn level_of(s: u32) -> u32
+    ensures { result ≡ level_of s }
+{
+    match s {
+        TIMES | DIV | MOD => levels::PRODUCTS,
+        PLUS | MINUS_SIGN => levels::SUMS,
+        EQUAL | UNEQUAL | LESS | LESS_EQUAL | GREATER | GREATER_EQUAL => levels::RELATIONS,
+        AND => levels::CONJUNCTIONS,
+        OR | XOR => levels::DISJUNCTIONS,
+        _ => levels::NONE,
     }
-    s == FUNC
 }

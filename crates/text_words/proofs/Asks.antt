@@ -3,24 +3,20 @@ use mathlib.Core.Path.{◌≡◌, refl, sym, ap, ◌∙◌}
 use mathlib.Core.Bool.{true, false}
 use mathlib.Core.List.{List, [], ◌∷◌}
 use mathlib.Core.Option.{Option, none, some}
-use mathlib.Core.Logic.{◌⊎◌, inl, inr}
 use Prim.Native.Nat.{ℕ, zero, suc, ◌+◌, ◌-◌, ◌<◌, ◌≤◌, ◌^◌}
 use native.Mathlib.Omega.{arith}
 use lib.Dec.{eqb, ltb}
 use lib.ListN.{length, take, drop}
 use borrow.Author.Tests.{eqb-true, eq-eqb, ne_eqb}
 use denote.Ref.{Bor}
-use denote.Enum.Declared.{tag_of}
 use Rattle.laws.proofs.Tests.{test, apart}
 use Rattle.paper.specs.Words.{Next, next, ended, refusal, Reading, place_after, following, read_from, reading, part_at, asked, text_limit, word_limit}
 use Rattle.text_words.specs.declared.Word.{Word}
 use Rattle.text_words.specs.declared.Cursor.{Cursor}
-use Rattle.text_words.specs.declared.Step.{Step}
-use Rattle.text_words.specs.declared.Step.TheVariants as steps
-use Rattle.text_words.specs.declared.Found.{Found}
-use Rattle.text_words.specs.declared.Found.TheVariants.{Length, Nothing}
-use Rattle.text_words.specs.Answers.{Started, Stepped, left_of, found_of, FoundAt, bytes_of, is_there, start_of, PartAt}
-use Rattle.text_words.specs.contracts.Step.{the_type}
+use Rattle.std.specs.Prelude as code
+use Rattle.std.specs.Prelude.{None, Some, Ok, Err}
+use Rattle.text_words.specs.declared.Refusal.{Refusal}
+use Rattle.text_words.specs.Answers.{Step, Started, Stepped, left_of, found_of, FoundAt, bytes_of, is_there, start_of, PartAt}
 use Rattle.text_words.proofs.Places.{Lies, NextLies, lies-nearer, lies-is, following-lies}
 use Rattle.text_words.proofs.Readings.{Gives, step_gives, step-ends, step-refuses, start_left}
 
@@ -77,19 +73,21 @@ search-start text place c h = record { left = ap (λ (r : Reading). part_at r.wo
 
 module _ (text : List ℕ) (place : ℕ) (c : Cursor) (at : Search text place c) (r : Step) (is : Stepped text c r) where
   -- no word came
-  pub search-none : (tag_of the_type r ≡ 1) ⊎ (tag_of the_type r ≡ 2) → FoundAt text place Nothing
+  pub search-ends : (o : code.Option (Word × Cursor)) → r ≡ Ok o → o ≡ None → FoundAt text place None
   unfolding part_at
-  search-none other = sym (ap found_of (at.left ∙ go r refl other))
-    where
-      go : (s : Step) → r ≡ s → (tag_of the_type s ≡ 1) ⊎ (tag_of the_type s ≡ 2) → part_at (left_of text c).words place ≡ none
-      go (steps.Word w d) e (inl x) = absurd (omega arith)
-      go (steps.Word w d) e (inr x) = absurd (omega arith)
-      go steps.End e o = rw (step-ends text c r is e)
-      go (steps.Refused k p) e o = rw (step-refuses text c r is k p e)
+  search-ends o e g =
+      let gone : part_at (left_of text c).words place ≡ none = rw (step-ends text c r is (e ∙ ap Ok g)) in
+      sym (ap found_of (at.left ∙ gone))
 
-  module _ (w : Word) (d : Cursor) (e : r ≡ steps.Word w d) where
+  pub search-refused : (q : Refusal) → r ≡ Err q → FoundAt text place None
+  unfolding part_at
+  search-refused q e =
+      let gone : part_at (left_of text c).words place ≡ none = rw (step-refuses text c r is q e) in
+      sym (ap found_of (at.left ∙ gone))
+
+  module _ (o : code.Option (Word × Cursor)) (e : r ≡ Ok o) (w : Word) (d : Cursor) (g : o ≡ Some (w, d)) where
     gives : Gives text c w d
-    gives = step_gives text c r is w d e
+    gives = step_gives text c r is w d (e ∙ ap Ok g)
 
     word_first : asked text place ≡ part_at (gives.paper-word ∷ (left_of text d).words) place
     word_first =
@@ -103,34 +101,34 @@ module _ (text : List ℕ) (place : ℕ) (c : Cursor) (at : Search text place c)
     unfolding part_at
     found_first h = word_first ∙ rw (eq-eqb gives.paper-word.place place (sym starts ∙ h), part_at)
 
-    pub search-found : w.place ≡ place → FoundAt text place (Length w.length)
-    search-found h = ap (λ (x : Word). Length x.length) gives.word-is ∙ sym (ap found_of (found_first h))
+    pub search-found : w.place ≡ place → FoundAt text place (Some w.length)
+    search-found h = ap (λ (x : Word). Some x.length) gives.word-is ∙ sym (ap found_of (found_first h))
 
     pub search-on : (w.place ≡ place → ⊥) → Search text place d
     unfolding part_at
     search-on h = record { left = word_first ∙ rw (ne_eqb gives.paper-word.place place (λ z. h (starts ∙ z)), part_at) }
 
-    pub search-past : (w.place ≡ place → ⊥) → place < w.place → FoundAt text place Nothing
-    search-past h g =
+    pub search-past : (w.place ≡ place → ⊥) → place < w.place → FoundAt text place None
+    search-past h l =
         let at_place : d.place ≡ place_after gives.paper-word = ap (λ (x : Cursor). x.place) gives.cursor-is in
         sym (ap found_of ((search-on h).left ∙ left-later text d place (omega (arith, starts))))
 
 -- ---- the part, by where it begins and what it holds
-module _ (text : Bor (List ℕ)) (place : ℕ) (r : Found) (is : FoundAt text.now place r) where
-  nothing : (o : Option (List ℕ)) → Nothing ≡ found_of o → o ≡ none
+module _ (text : Bor (List ℕ)) (place : ℕ) (r : code.Option ℕ) (is : FoundAt text.now place r) where
+  nothing : (o : Option (List ℕ)) → None ≡ found_of o → o ≡ none
   nothing none e = refl
   nothing (some part) e = apart (cc)
 
-  pub part_none : r ≡ Nothing → PartAt text place (record { ref_ptr = text.ref_ptr; now = [] }) false
+  pub part_none : r ≡ None → PartAt text place (record { ref_ptr = text.ref_ptr; now = [] }) false
   part_none e =
       let no = nothing (asked text.now place) (sym e ∙ is) in
       record { start = rw no; bytes = rw no; flag = rw no }
 
-  module _ (n : ℕ) (e : r ≡ Length n) where
+  module _ (n : ℕ) (e : r ≡ Some n) where
     part-is : asked text.now place ≡ some (take n (drop place text.now))
     part-is = go (asked text.now place) refl (sym e ∙ is)
       where
-        go : (o : Option (List ℕ)) → asked text.now place ≡ o → Length n ≡ found_of o → asked text.now place ≡ some (take n (drop place text.now))
+        go : (o : Option (List ℕ)) → asked text.now place ≡ o → Some n ≡ found_of o → asked text.now place ≡ some (take n (drop place text.now))
         go none a f = apart (cc)
         go (some part) a f =
             let size : length part ≡ n = cc in

@@ -11,12 +11,12 @@ use lib.Seq.{drop-drop}
 use borrow.Author.Tests.{eq-eqb, ne_eqb, leb-true, leb-false}
 use Rattle.laws.proofs.Tests.{test, apart}
 use Rattle.paper.specs.Words as paper
-use Rattle.paper.specs.Words.{Next, next, ended, refusal, Refusal, with_word, no_words, place_after, following, read_from, reading, text_limit, word_limit}
+use Rattle.paper.specs.Words.{Next, next, ended, refusal, with_word, no_words, place_after, following, read_from, reading, text_limit, word_limit}
 use Rattle.text_words.specs.declared.Word.{Word}
 use Rattle.text_words.specs.declared.Cursor.{Cursor}
-use Rattle.text_words.specs.declared.Step.{Step}
-use Rattle.text_words.specs.declared.Step.TheVariants as steps
-use Rattle.text_words.specs.Answers.{word_of, after, step_of, full, next_at, left_of, Started, Stepped, too_long}
+use Rattle.std.specs.Prelude.{None, Some, Ok, Err}
+use Rattle.text_words.specs.declared.Refusal.{Refusal}
+use Rattle.text_words.specs.Answers.{as_refusal, told, Step, word_of, after, step_of, full, next_at, left_of, Started, Stepped, too_long}
 use Rattle.text_words.proofs.Places.{Lies, NextLies, lies-nearer, following-lies}
 
 -- ---- the bytes that `read_from` counts do not matter once they exceed what is left
@@ -126,35 +126,34 @@ pub record Gives (text : List ℕ) (c : Cursor) (w : Word) (d : Cursor) : Type 0
   pub given : Given text c paper-word
 
 module _ (text : List ℕ) (c : Cursor) (r : Step) (is : Stepped text c r) where
-  pub step_gives : (w : Word) (d : Cursor) → r ≡ steps.Word w d → Gives text c w d
-  step_gives w d e = go (next_at text c) refl (sym e ∙ is)
+  pub step_gives : (w : Word) (d : Cursor) → r ≡ Ok (Some (w, d)) → Gives text c w d
+  step_gives w d e = go (next_at text c) refl (sym (ap told e) ∙ is)
     where
-      go : (x : Next) → next_at text c ≡ x → steps.Word w d ≡ step_of c.words x → Gives text c w d
-      go (next v) n s = record { paper-word = v; word-is = cc; cursor-is = cc; given = left_by text c (next v) n }
+      go : (x : Next) → next_at text c ≡ x → Ok (Some (w, d)) ≡ step_of c.words x → Gives text c w d
+      go (next v) n s =
+          let same : (w, d) ≡ (word_of v, after c.words v) = cc in
+          record { paper-word = v; word-is = ap (λ (p : Word × Cursor). p.0) same; cursor-is = ap (λ (p : Word × Cursor). p.1) same; given = left_by text c (next v) n }
       go ended n s = apart (cc)
       go (refusal q) n s = apart (cc)
 
-  pub step-ends : r ≡ steps.End → left_of text c ≡ no_words none
-  step-ends e = go (next_at text c) refl (sym e ∙ is)
+  pub step-ends : r ≡ Ok None → left_of text c ≡ no_words none
+  step-ends e = go (next_at text c) refl (sym (ap told e) ∙ is)
     where
-      go : (x : Next) → next_at text c ≡ x → steps.End ≡ step_of c.words x → left_of text c ≡ no_words none
+      go : (x : Next) → next_at text c ≡ x → Ok None ≡ step_of c.words x → left_of text c ≡ no_words none
       go (next v) n s = apart (cc)
       go ended n s = left_by text c ended n
       go (refusal q) n s = apart (cc)
 
-  pub step-refuses : (k p : ℕ) → r ≡ steps.Refused k p → left_of text c ≡ no_words (some (record { number = k; offset = p }))
-  step-refuses k p e = go (next_at text c) refl (sym e ∙ is)
+  pub step-refuses : (q : Refusal) → r ≡ Err q → left_of text c ≡ no_words (some (as_refusal q))
+  step-refuses q e = go (next_at text c) refl (sym (ap told e) ∙ is)
     where
-      go : (x : Next) → next_at text c ≡ x → steps.Refused k p ≡ step_of c.words x → left_of text c ≡ no_words (some (record { number = k; offset = p }))
+      go : (x : Next) → next_at text c ≡ x → Err (as_refusal q) ≡ step_of c.words x → left_of text c ≡ no_words (some (as_refusal q))
       go (next v) n s = apart (cc)
       go ended n s = apart (cc)
-      go (refusal q) n s =
-          let a : k ≡ q.number = cc in
-          let b : p ≡ q.offset = cc in
-          rw (a, b) (left_by text c (refusal q) n)
+      go (refusal p) n s = let same : as_refusal q ≡ p = cc in rw same (left_by text c (refusal p) n)
 
   -- a step that gives a word moves on in the text
-  pub step_less : (w : Word) (d : Cursor) → r ≡ steps.Word w d → length text - d.place < length text - c.place
+  pub step_less : (w : Word) (d : Cursor) → r ≡ Ok (Some (w, d)) → length text - d.place < length text - c.place
   step_less w d e =
       let g = step_gives w d e in
       let at : d.place ≡ place_after g.paper-word = ap (λ (x : Cursor). x.place) g.cursor-is in
@@ -167,22 +166,22 @@ start_left text c h = rw h
 
 -- ---- one step after another
 -- Steps from a cursor on: the words that they give, and how they end.
-pub data Steps (text : List ℕ) : Cursor → List Word → Option Refusal → Type 0 where
-  end : {c : Cursor} → Stepped text c steps.End → Steps text c [] none
-  refused : {c : Cursor} {k p : ℕ} → Stepped text c (steps.Refused k p) → Steps text c [] (some (record { number = k; offset = p }))
-  word : {c d : Cursor} {w : Word} {l : List Word} {o : Option Refusal} → Stepped text c (steps.Word w d) → Steps text d l o → Steps text c (w ∷ l) o
+pub data Steps (text : List ℕ) : Cursor → List Word → Option paper.Refusal → Type 0 where
+  end : {c : Cursor} → Stepped text c (Ok None) → Steps text c [] none
+  refused : {c : Cursor} (q : Refusal) → Stepped text c (Err q) → Steps text c [] (some (as_refusal q))
+  word : {c d : Cursor} {w : Word} {l : List Word} {o : Option paper.Refusal} → Stepped text c (Ok (Some (w, d))) → Steps text d l o → Steps text c (w ∷ l) o
 
 -- The words that steps give one after another are those that are left, and they end as the reading does.
-pub steps-left : (text : List ℕ) (c : Cursor) (l : List Word) (o : Option Refusal) → Steps text c l o
+pub steps-left : (text : List ℕ) (c : Cursor) (l : List Word) (o : Option paper.Refusal) → Steps text c l o
     → (map word_of (left_of text c).words ≡ l) × ((left_of text c).refusal ≡ o)
-steps-left text c [] none (end h) = let e = step-ends text c steps.End h refl in (rw e, rw e)
-steps-left text c [] (some r) (refused {k = k} {p = p} h) = let e = step-refuses text c (steps.Refused k p) h k p refl in (rw e, rw e)
+steps-left text c [] none (end h) = let e = step-ends text c (Ok None) h refl in (rw e, rw e)
+steps-left text c [] (some r) (refused q h) = let e = step-refuses text c (Err q) h q refl in (rw e, rw e)
 steps-left text c (w ∷ l) o (word {d = d} h more) =
-    let g = step_gives text c (steps.Word w d) h w d refl in
+    let g = step_gives text c (Ok (Some (w, d))) h w d refl in
     let rest = steps-left text d l o more in
     let left : left_of text c ≡ with_word g.paper-word (left_of text d) = g.given.left ∙ ap (λ (x : Cursor). with_word g.paper-word (left_of text x)) (sym g.cursor-is) in
     (rw left (cc (g.word-is, rest.0)), rw left rest.1)
 
-pub steps-read : (text : List ℕ) (c : Cursor) (l : List Word) (o : Option Refusal) → Started c → Steps text c l o
+pub steps-read : (text : List ℕ) (c : Cursor) (l : List Word) (o : Option paper.Refusal) → Started c → Steps text c l o
     → (map word_of (reading text).words ≡ l) × ((reading text).refusal ≡ o)
 steps-read text c l o h k = rw (sym (start_left text c h)) (steps-left text c l o k)

@@ -1,12 +1,12 @@
 -- What the promises of the walk settle: its answer, and what of the stores no piece may write. What a piece writes of itself is promised by what a run reads there (D80).
 -- What a function asks of its callers (`Stands`, `Asks`, `Begins`, ..) is what each theorem asks: of other stores nothing is promised.
-use mathlib.Core.Path.{◌≡◌, sym, ap, ap₂, subst, ◌∙◌}
+use Rattle.std.specs.Prelude.{Ok, Err}
+use mathlib.Core.Path.{◌≡◌, refl, sym, ap, ap₂, subst, ◌∙◌}
 use mathlib.Core.Bool.{Bool}
 use mathlib.Core.List.{List}
-use mathlib.Core.Option.{some}
 use Prim.Native.Nat.{ℕ, ◌+◌, ◌*◌}
 use lib.ListN.{length}
-use lib.IntN.{ℤ, pos, nat_abs, ◌+ℤ◌, ◌-ℤ◌, -ℤ-+ℤ_cancel}
+use lib.IntN.{ℤ, pos, nat_abs, ◌+ℤ◌, -ℤ-+ℤ_cancel}
 use Rattle.paper.specs.Words.{Word}
 use Rattle.paper.specs.Terms.{Memory}
 use Rattle.paper.specs.Trees.{Expr}
@@ -20,26 +20,22 @@ use Rattle.store_cells.specs.Cells.{cells_of}
 use Rattle.code.specs.Cells.{link_at}
 use Rattle.code.specs.Steps.{numbered}
 use Rattle.code.specs.Spans.{bias, term_in}
-use Rattle.layout.specs.Types.{type_in, IsType}
+use Rattle.layout.specs.Broken.{as_fault}
+use Rattle.layout.specs.Types.{type_in}
+use Rattle.layout.specs.declared.types.ValueType.{ValueType}
 use Rattle.faults.specs.Added.{data_faults, parameter_faults}
 use Rattle.faults.specs.Left.{own_faults}
 use Rattle.faults.proofs.Routines.{nothing-in-own}
 use Rattle.check_heads.specs.Trees.{heads_for}
 use Rattle.check_sites.specs.Sites.{the_module, a_routine, filling}
-use Rattle.check_expressions.specs.declared.Judged.{Judged}
-use Rattle.check_expressions.specs.declared.Judged.TheVariants as judged
+use Rattle.check_expressions.specs.Judgements.{Judged}
 use Rattle.check_expressions.specs.Answers.{Sound, SaysUnder, Judges, Stands, Checked, OfType}
 use Rattle.check_expressions.proofs.Unique.{expression-unique, of-type-unique}
-use Rattle.check_constants.specs.declared.Valued.{Valued}
-use Rattle.check_constants.specs.declared.Valued.TheVariants as valued
-use Rattle.check_constants.specs.declared.Sized.{Sized}
-use Rattle.check_constants.specs.declared.Sized.TheVariants as sized
+use Rattle.check_constants.specs.Sizing.{Valued, Sized}
 use Rattle.check_constants.specs.Answers.{HeldAs, Asks, Values, SaysSize, Sizes}
 use Rattle.check_constants.specs.Answers as constants
 use Rattle.check_names.specs.declared.Scope.{Scope}
-use Rattle.check_names.specs.Scopes.{with_used, Grown, Stays, BackTo}
-use Rattle.check_names.specs.declared.Walked.{Walked}
-use Rattle.check_names.specs.declared.Walked.TheVariants as walked
+use Rattle.check_names.specs.Scopes.{Walked, with_used, Grown, Stays, BackTo}
 use Rattle.check_datum.specs.Answers as datum
 use Rattle.check_declarations.specs.Answers.{DataStand, SaysModule, DeclaresModule, RoutineStands, routine_after, SaysRoutine, DeclaresRoutine}
 use Rattle.check_parameters.specs.Answers.{ParametersStand, with_parameters, Opens, parameters_after, OtherWords, SaysParameters, DeclaresParameters}
@@ -48,11 +44,12 @@ use Rattle.check_leaving.specs.Answers as leaving
 use Rattle.check_links.specs.Raw.{RawList}
 use Rattle.check_around.specs.declared.Setting.{Setting}
 use Rattle.check_around.specs.Around.{ground_of}
+use Rattle.check_around.specs.Answers.{Stepped}
 use Rattle.check_simple.specs.Answers as simple
 use Rattle.check_compounds.specs.Parts.{ForHeads, ForHeaded, CaseValues, CaseValued}
 use Rattle.check_statements.specs.Answers as statements
 use Rattle.check_routines.specs.Answers as routines
-use Rattle.unique.proofs.Answers.{fault_at, no-first, same_answer, Comes, walk-unique, SameWalk, SameOutside, kept-unique, SameOthers, changed-unique, SameBut, first-link, SaySame, answer-unique}
+use Rattle.unique.proofs.Answers.{no-first, same_answer, Comes, walk-unique, SameWalk, SameOutside, kept-unique, SameOthers, changed-unique, SameBut, first-link, SaySame, answer-unique}
 use Rattle.unique.proofs.Names.{SameMeans, means-unique, SameFilled, filled-unique}
 use Rattle.unique.proofs.Stores.{SameCells, same-cells}
 
@@ -61,7 +58,7 @@ use Rattle.unique.proofs.Stores.{SameCells, same-cells}
 pub record SameExpression {code values : List ℕ} {top at : ℕ} (k : Stands code values top at) (c d : List ℕ) (r s : Judged) : Type 0 where
   pub answer : r ≡ s
   pub outside : SameOutside c d at k.to
-  pub term : (type next : ℕ) → r ≡ judged.Typed type next → term_in k.known.m k.known.n (cells_of c) at k.to ≡ term_in k.known.m k.known.n (cells_of d) at k.to
+  pub term : (type : ValueType) (next : ℕ) → r ≡ Ok (type, next) → term_in k.known.m k.known.n (cells_of c) at k.to ≡ term_in k.known.m k.known.n (cells_of d) at k.to
 
 module _ (code values c d : List ℕ) (only : Bool) (at : ℕ) (r s : Judged) where
   same-expression : {top : ℕ} (k : Stands code values top at) (j : types.Judged) → Judges k.known.m k.known.n code c at k.to j r → Judges k.known.m k.known.n code d at k.to j s
@@ -73,14 +70,14 @@ module _ (code values c d : List ℕ) (only : Bool) (at : ℕ) (r s : Judged) wh
     term = λ type next t. both type next (subst (SaysUnder nestings k.known.m k.known.n (cells_of c) at k.to j) t p.says) (subst (SaysUnder nestings k.known.m k.known.n (cells_of d) at k.to j) (sym e ∙ t) q.says);
   }
     where
-      both : (type next : ℕ) → Sound k.known.m k.known.n (cells_of c) at k.to j type next → Sound k.known.m k.known.n (cells_of d) at k.to j type next
+      both : (type : ValueType) (next : ℕ) → Sound k.known.m k.known.n (cells_of c) at k.to j type next → Sound k.known.m k.known.n (cells_of d) at k.to j type next
           → term_in k.known.m k.known.n (cells_of c) at k.to ≡ term_in k.known.m k.known.n (cells_of d) at k.to
       both type next p q = p.stands ∙ sym q.stands
 
   pub expression-same : (top : ℕ) (k : Stands code values top at) → Checked code values c only top at r → Checked code values d only top at s → SameExpression k c d r s
   expression-same top k p q = same-expression k _ (p.is k) (q.is k) (expression-unique code values c d only top at r s k p q)
 
-  pub of-type-same : (wants : ℕ) (k : Stands code values disjunctions at) (t : DataType) → type_in wants ≡ some t → OfType code values c only wants at r → OfType code values d only wants at s
+  pub of-type-same : (wants : ValueType) (k : Stands code values disjunctions at) (t : DataType) → type_in wants ≡ t → OfType code values c only wants at r → OfType code values d only wants at s
       → SameExpression k c d r s
   of-type-same wants k t w p q = same-expression k _ (p.is k t w) (q.is k t w) (of-type-unique code values c d only wants at t r s w k p q)
 
@@ -94,23 +91,23 @@ held-unique v r s p q = ap nat_abs (sum r p ∙ sym (sum s q))
 module _ (W : List Word) (S : Scopes) (M : Memory) (e : Expr) (to : ℕ) where
   same-valued : (t : DataType) (r s : Valued) → constants.Says W t S M e to r → constants.Says W t S M e to s → r ≡ s
   unfolding constants.Says
-  same-valued t (valued.Value u m) (valued.Value v n) p q = ap₂ valued.Value (p.is ∙ sym q.is) (p.next-is ∙ sym q.next-is)
-  same-valued t (valued.Value u m) (valued.Faulty l j) p q = no-first _ (fault_at l j) p.none q
-  same-valued t (valued.Faulty k i) (valued.Value v n) p q = no-first _ (fault_at k i) q.none p
-  same-valued t (valued.Faulty k i) (valued.Faulty l j) p q = same_answer _ k i l j valued.Faulty p q
+  same-valued t (Ok (u, m)) (Ok (v, n)) p q = ap₂ (λ (z : ℤ) (next : ℕ). Ok (z, next)) (p.is ∙ sym q.is) (p.next-is ∙ sym q.next-is)
+  same-valued t (Ok (u, m)) (Err g) p q = no-first _ (as_fault g) p.none q
+  same-valued t (Err f) (Ok (v, n)) p q = no-first _ (as_fault f) q.none p
+  same-valued t (Err f) (Err g) p q = ap Err (same_answer _ f g p q)
 
   same-sized : (r s : Sized) → SaysSize W S M e to r → SaysSize W S M e to s → r ≡ s
   unfolding SaysSize
-  same-sized (sized.Count u m) (sized.Count v n) p q = ap₂ sized.Count (p.is ∙ sym q.is) (p.next-is ∙ sym q.next-is)
-  same-sized (sized.Count u m) (sized.Unsized l j) p q = no-first _ (fault_at l j) p.none q
-  same-sized (sized.Unsized k i) (sized.Count v n) p q = no-first _ (fault_at k i) q.none p
-  same-sized (sized.Unsized k i) (sized.Unsized l j) p q = same_answer _ k i l j sized.Unsized p q
+  same-sized (Ok (u, m)) (Ok (v, n)) p q = ap₂ (λ (size next : ℕ). Ok (size, next)) (p.is ∙ sym q.is) (p.next-is ∙ sym q.next-is)
+  same-sized (Ok (u, m)) (Err g) p q = no-first _ (as_fault g) p.none q
+  same-sized (Err f) (Ok (v, n)) p q = no-first _ (as_fault f) q.none p
+  same-sized (Err f) (Err g) p q = ap Err (same_answer _ f g p q)
 
 -- the answer, and the code store outside of the expression
 module _ (code values c d : List ℕ) (at : ℕ) (a : Asks code values at) where
-  pub constant-unique : (wants : ℕ) (r s : Valued) → IsType wants → Values code values c wants at r → Values code values d wants at s → (r ≡ s) × SameOutside c d at a.stands.to
-  constant-unique wants r s t p q =
-      (same-valued _ _ _ _ _ t.type r s (p.says a t.type t.is) (q.says a t.type t.is), kept-unique code c d at a.stands.to (p.kept a) (q.kept a))
+  pub constant-unique : (wants : ValueType) (r s : Valued) → Values code values c wants at r → Values code values d wants at s → (r ≡ s) × SameOutside c d at a.stands.to
+  constant-unique wants r s p q =
+      (same-valued _ _ _ _ _ (type_in wants) r s (p.says a _ refl) (q.says a _ refl), kept-unique code c d at a.stands.to (p.kept a) (q.kept a))
 
   pub size-unique : (r s : Sized) → Sizes code values c at r → Sizes code values d at s → (r ≡ s) × SameOutside c d at a.stands.to
   size-unique r s p q = (same-sized _ _ _ _ _ r s (p.says a) (q.says a), kept-unique code c d at a.stands.to (p.kept a) (q.kept a))
@@ -122,7 +119,7 @@ grown before end used g e = g.rest ∙ ap (λ (u : ℕ). with_used u before) e
 
 -- what is promised of an answer (`P`, `Q`), and what follows of it where no rule is broken
 same-walk : (r s : Walked) (fs : List Fault) (to : ℕ) (end : Scope) (P Q : Walked → Type 0) (holds : Type 0) → ((x : Walked) → P x → Comes fs to end x) → ((x : Walked) → Q x → Comes fs to end x)
-    → ((next : ℕ) (scope : Scope) → P (walked.Upto next scope) → Q (walked.Upto next scope) → holds) → P r → Q s → SameWalk r s holds
+    → ((next : ℕ) (scope : Scope) → P (Ok (next, scope)) → Q (Ok (next, scope)) → holds) → P r → Q s → SameWalk r s holds
 same-walk r s fs to end P Q holds one other both p q =
     let e = walk-unique fs to end r s (one r p) (other s q) in
     record { answer = e; stores = λ next scope k. both next scope (subst P k p) (subst Q (sym e ∙ k) q) }
@@ -134,13 +131,13 @@ module _ (code values c d v w : List ℕ) (r s : Walked) where
 
     datum-comes : (c v : List ℕ) (x : Walked) → DatumSays c v x → Comes (datum.faults_of b) b.to (with_used (length (datum.after b).words) scope) x
     unfolding Comes datum.Says
-    datum-comes c v (walked.Upto next end) (p, g) = (p.none, p.next-is, grown scope end _ g p.used-is)
-    datum-comes c v (walked.Faulty number word) (p, g) = p
+    datum-comes c v (Ok (next, end)) (p, g) = (p.none, p.next-is, grown scope end _ g p.used-is)
+    datum-comes c v (Err broken) (p, g) = p
 
     abbrev DatumStores : Type 0
     DatumStores = SameOthers (cells_of c) (cells_of d) i b.to × SameFilled b.routine b.W b.s (datum.after b) v w
 
-    datum-stores : (next : ℕ) (end : Scope) → DatumSays c v (walked.Upto next end) → DatumSays d w (walked.Upto next end) → DatumStores
+    datum-stores : (next : ℕ) (end : Scope) → DatumSays c v (Ok (next, end)) → DatumSays d w (Ok (next, end)) → DatumStores
     unfolding datum.Says
     datum-stores next end (p, g) (q, h) = (changed-unique (cells_of code) (cells_of c) (cells_of d) i b.to p.changed q.changed, filled-unique _ _ _ _ v w p.filled q.filled)
 
@@ -157,13 +154,13 @@ module _ (code values c d v w : List ℕ) (r s : Walked) where
     module-comes : (c v : List ℕ) (x : Walked) → ModuleSays c v x
         → Comes (data_faults b.W module-filling b.ds no_data) b.to (with_used (length (declare_data b.W module-filling b.ds no_data).words) before) x
     unfolding Comes SaysModule
-    module-comes c v (walked.Upto next end) (p, g) = (p.none, p.next-is, grown before end _ g p.used-is)
-    module-comes c v (walked.Faulty number word) (p, g) = p
+    module-comes c v (Ok (next, end)) (p, g) = (p.none, p.next-is, grown before end _ g p.used-is)
+    module-comes c v (Err broken) (p, g) = p
 
     abbrev ModuleStores : Type 0
     ModuleStores = SameOthers (cells_of c) (cells_of d) at b.to × SameFilled b.routine b.W (the_module b.routines) (declare_data b.W module-filling b.ds no_data) v w
 
-    module-stores : (next : ℕ) (end : Scope) → ModuleSays c v (walked.Upto next end) → ModuleSays d w (walked.Upto next end) → ModuleStores
+    module-stores : (next : ℕ) (end : Scope) → ModuleSays c v (Ok (next, end)) → ModuleSays d w (Ok (next, end)) → ModuleStores
     unfolding SaysModule
     module-stores next end (p, g) (q, h) = (changed-unique (cells_of code) (cells_of c) (cells_of d) at b.to p.changed q.changed, filled-unique _ _ _ _ v w p.filled q.filled)
 
@@ -177,14 +174,14 @@ module _ (code values c d v w : List ℕ) (r s : Walked) where
     routine-comes : (c v : List ℕ) (x : Walked) → RoutineSays c v x
         → Comes (data_faults b.W (filling b.W (a_routine b.m)) b.ds b.D) b.to (with_used (length (routine_after b).words) before) x
     unfolding Comes SaysRoutine
-    routine-comes c v (walked.Upto next end) (p, g) = (p.none, p.next-is, grown before end _ g p.used-is)
-    routine-comes c v (walked.Faulty number word) (p, g) = p
+    routine-comes c v (Ok (next, end)) (p, g) = (p.none, p.next-is, grown before end _ g p.used-is)
+    routine-comes c v (Err broken) (p, g) = p
 
     -- the routine's first word may change too: its link leads to the first declaration
     abbrev RoutineStores : Type 0
     RoutineStores = SameBut (cells_of c) (cells_of d) (before.head * 2 + 1) at b.to × (link_at (cells_of c) before.head ≡ link_at (cells_of d) before.head) × SameFilled b.routine b.W (a_routine b.m) (routine_after b) v w
 
-    routine-stores : (next : ℕ) (end : Scope) → RoutineSays c v (walked.Upto next end) → RoutineSays d w (walked.Upto next end) → RoutineStores
+    routine-stores : (next : ℕ) (end : Scope) → RoutineSays c v (Ok (next, end)) → RoutineSays d w (Ok (next, end)) → RoutineStores
     unfolding SaysRoutine
     routine-stores next end (p, g) (q, h) = (
       record { below = λ k l n. p.below k l n ∙ sym (q.below k l n); above = λ k l. p.above k l ∙ sym (q.above k l) },
@@ -204,14 +201,14 @@ module _ (code values c d v w : List ℕ) (r s : Walked) where
     parameters-come : (c v : List ℕ) (x : Walked) → ParametersSay c v x
         → Comes (parameter_faults b.W (filling b.W (a_routine b.m)) b.ps no_data) b.to (with_parameters (length b.ps) entered) x
     unfolding Comes SaysParameters
-    parameters-come c v (walked.Upto next end) (p, g) = (p.none, p.next-is, g.is ∙ ap (λ (used : ℕ). with_parameters used entered) p.used-is)
-    parameters-come c v (walked.Faulty number word) (p, g) = p
+    parameters-come c v (Ok (next, end)) (p, g) = (p.none, p.next-is, g.is ∙ ap (λ (used : ℕ). with_parameters used entered) p.used-is)
+    parameters-come c v (Err broken) (p, g) = p
 
     -- all cells but those of the names' words
     abbrev ParameterStores : Type 0
     ParameterStores = OtherWords (cells_of d) (cells_of c) entered.first (length b.ps) × SameFilled b.routine b.W (a_routine b.m) (parameters_after b) v w
 
-    parameter-stores : (next : ℕ) (end : Scope) → ParametersSay c v (walked.Upto next end) → ParametersSay d w (walked.Upto next end) → ParameterStores
+    parameter-stores : (next : ℕ) (end : Scope) → ParametersSay c v (Ok (next, end)) → ParametersSay d w (Ok (next, end)) → ParameterStores
     unfolding SaysParameters
     parameter-stores next end (p, g) (q, h) =
         (subst (OtherWords (cells_of d) (cells_of c) entered.first) p.used-is (record { is = λ k n. p.others.is k n ∙ sym (q.others.is k n) }), filled-unique _ _ _ _ v w p.filled q.filled)
@@ -228,13 +225,13 @@ module _ (code values c d v w : List ℕ) (r s : Walked) where
 
     list-comes : (c v : List ℕ) (x : Walked) → Told c v x → Comes (list_faults b.around.known.W b.around.K b.around.M b.l b.around.known.S scope.used) b.to (with_used (scope.used + fors_in_list b.l) scope) x
     unfolding Comes statements.Tell
-    list-comes c v (walked.Upto next end) (p, g) = (p.none, p.next-is, grown scope end _ g p.used-is)
-    list-comes c v (walked.Faulty number word) (p, g) = p
+    list-comes c v (Ok (next, end)) (p, g) = (p.none, p.next-is, grown scope end _ g p.used-is)
+    list-comes c v (Err broken) (p, g) = p
 
     abbrev ListStores : Type 0
     ListStores = SameOthers (cells_of c) (cells_of d) at b.to × SameCells v w
 
-    list-stores : (next : ℕ) (end : Scope) → Told c v (walked.Upto next end) → Told d w (walked.Upto next end) → ListStores
+    list-stores : (next : ℕ) (end : Scope) → Told c v (Ok (next, end)) → Told d w (Ok (next, end)) → ListStores
     unfolding statements.Tell
     list-stores next end (p, g) (q, h) = (
       record { below = λ k l. p.outside.below k l ∙ sym (q.outside.below k l); above = λ k l. p.outside.above k l ∙ sym (q.outside.above k l) },
@@ -251,7 +248,7 @@ leave-unique scope outer code values v w r s l p q =
     (p.scope-is ∙ sym q.scope-is, record { is = λ k h. p.same.is k h ∙ sym (q.same.is k h) }, means-unique _ _ _ _ _ (p.means l) (q.means l))
 
 -- ---- pieces of statements: the next word and the store outside of the piece, or the first fault
-module _ (code values c d : List ℕ) (r s : Judged) where
+module _ (code values c d : List ℕ) (r s : Stepped) where
   pub statement-unique : (text : List ℕ) (k : Setting) (at : ℕ) (g : simple.Statement text code values k at) → simple.Stated text code values c k at r → simple.Stated text code values d k at s
       → SaySame c d at (g.stands.to + 1) r s
   statement-unique text k at g p q = answer-unique _ code c d at (g.stands.to + 1) _ _ r s (p.is g) (q.is g)
@@ -280,11 +277,11 @@ module _ (text code values c d v w : List ℕ) (outer : Scope) (k h : ℕ) (r s 
 
   routine-passes : (c v : List ℕ) (x : Walked) → Passed c v x → Comes Own b.stands.to outer x
   unfolding Comes routines.Says
-  routine-passes c v (walked.Upto next end) (p, g) =
+  routine-passes c v (Ok (next, end)) (p, g) =
       (nothing-in-own b.stands.W b.stands.m b.stands.earlier k b.stands.r p.none-in-head p.goes.none, p.goes.next-is, g)
-  routine-passes c v (walked.Faulty number word) (p, g) = p
+  routine-passes c v (Err broken) (p, g) = p
 
-  rest-same : (next : ℕ) (end : Scope) → Passed c v (walked.Upto next end) → Passed d w (walked.Upto next end) → SameRest b c d v w
+  rest-same : (next : ℕ) (end : Scope) → Passed c v (Ok (next, end)) → Passed d w (Ok (next, end)) → SameRest b c d v w
   unfolding routines.Says
   rest-same next end (p, g) (q, f) = (
     record { below = λ i l. p.goes.below i l ∙ sym (q.goes.below i l); above = λ i l. p.goes.above i l ∙ sym (q.goes.above i l) },

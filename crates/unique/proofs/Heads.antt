@@ -1,12 +1,14 @@
 -- What the pass over heads settles: main's first word, every byte outside of the module's words, the words that it may not change, what the code store says of each routine, and what the table
 -- says of each name. Open are bits that say nothing: the value of a type that is no parameter's or result's or is refused, and of a cell whose meaning has none.
-use mathlib.Core.Path.{◌≡◌, sym, ap, ◌∙◌}
+use Rattle.std.specs.Prelude as optional
+use Rattle.std.specs.Prelude.{Some, None}
+use mathlib.Core.Path.{◌≡◌, refl, sym, ap, ◌∙◌}
 use mathlib.Core.Bool.{false}
 use mathlib.Core.List.{List}
 use mathlib.Core.Option.{Option, none, some}
 use Prim.Native.Nat.{ℕ, ◌*◌, ◌<◌}
 use lib.ListN.{length, get_or, take, drop}
-use Rattle.laws.proofs.Tests.{apart, by-same}
+use Rattle.laws.proofs.Tests.{apart}
 use Rattle.paper.specs.Trees.{Module}
 use Rattle.paper.specs.Checks.{main_of}
 use Rattle.store_cells.specs.Cells.{cells_of}
@@ -21,16 +23,18 @@ use Rattle.check_heads.specs.Stores.{is_valued}
 use Rattle.check_heads.specs.Reads.{Begins, MainAt, Foretells, Reads}
 use Rattle.unique.proofs.Names.{SameMeans, means-unique}
 
-pub main-unique : (R : List Head) (main : Option ℕ) (r s : ℕ) → MainAt R main r → MainAt R main s → r ≡ s
-main-unique R main r s p q =
-    by-same r 0 (λ e. by-same s 0 (λ g. e ∙ sym g) (λ g. neither (p.missing e) (q.found g)))
-    (λ e. by-same s 0 (λ g. neither (q.missing g) (p.found e))
-    (λ g. let same : some (numbered R r) ≡ some (numbered R s) = sym (p.found e) ∙ q.found g in
-    let number : numbered R r ≡ numbered R s = cc in
-    sym (p.begins e) ∙ ap (λ (k : ℕ). (get_or R k no_head).word) number ∙ q.begins g))
-  where
-    neither : {A : Type 0} {k : ℕ} → main ≡ none → main ≡ some k → A
-    neither {k = k} e g = let z : none ≡ some k = sym e ∙ g in apart (cc)
+-- main is there, and is not
+neither : {A : Type 0} (R : List Head) (main : Option ℕ) {k : ℕ} → main ≡ none → main ≡ some k → A
+neither R main {k} e g = let z : none ≡ some k = sym e ∙ g in apart (cc)
+
+pub main-unique : (R : List Head) (main : Option ℕ) (r s : optional.Option ℕ) → MainAt R main r → MainAt R main s → r ≡ s
+main-unique R main None None p q = refl
+main-unique R main None (Some k) p q = neither R main (p.missing refl) (q.found k refl)
+main-unique R main (Some h) None p q = neither R main (q.missing refl) (p.found h refl)
+main-unique R main (Some h) (Some k) p q =
+    let same : some (numbered R h) ≡ some (numbered R k) = sym (p.found h refl) ∙ q.found k refl in
+    let number : numbered R h ≡ numbered R k = cc in
+    ap Some (sym (p.begins h refl) ∙ ap (λ (n : ℕ). (get_or R n no_head).word) number ∙ q.begins k refl)
 
 -- the code store, of which the words from `first` up to `text_words` are the module's
 pub record SameHeads (R : List Head) (code c d : List ℕ) (first words : ℕ) : Type 0 where
@@ -50,7 +54,7 @@ pub record SameTable (text : List ℕ) (m : Module) (v w : List ℕ) : Type 0 wh
   pub beyond : drop store_bytes v ≡ drop store_bytes w
   pub long : length v ≡ length w
 
-module _ (text code values c d v w : List ℕ) (r s : ℕ) where
+module _ (text code values c d v w : List ℕ) (r s : optional.Option ℕ) where
   module _ (words : ℕ) (m : Module) (p : Foretells text code values c v r words m) (q : Foretells text code values d w s words m) where
     same-heads : SameHeads (heads_for m.routines) code c d 2 words
     same-heads = record {

@@ -1,5 +1,6 @@
 -- What promises settle of names, their spelling, the form of a module, and a name that is declared.
-use mathlib.Core.Path.{◌≡◌, sym, ap, subst, ◌∙◌}
+use Rattle.std.specs.Prelude.{Result, Ok, Err}
+use mathlib.Core.Path.{◌≡◌, refl, sym, ap, subst, ◌∙◌}
 use mathlib.Core.Bool.{Bool}
 use mathlib.Core.List.{List}
 use Prim.Native.Nat.{ℕ, ◌+◌, ◌-◌, ◌/◌, ◌<◌, ◌≤◌}
@@ -18,7 +19,10 @@ use Rattle.paper.specs.Declarations.{Data}
 use Rattle.store_cells.specs.Cells.{cells_of}
 use Rattle.store_cells.proofs.Laws.{length-words}
 use Rattle.code.specs.Cells.{op_at}
-use Rattle.layout.proofs.Typing.{same_codes}
+use Rattle.layout.specs.Broken.{as_fault}
+use Rattle.layout.specs.declared.rules.Breach.{Breach}
+use Rattle.layout.proofs.Typing.{type-injective}
+use Rattle.layout.specs.declared.types.ValueType.{ValueType}
 use Rattle.check_names.specs.declared.Scope.{Scope}
 use Rattle.check_names.specs.Numbers.{number_of, IsName}
 use Rattle.check_names.specs.Meanings.{cell_with, type_with, meaning_in, protects_cell, cell_for, Means}
@@ -26,7 +30,7 @@ use Rattle.check_names.specs.Promises.{number_at, TypeOf, TypeNamed}
 use Rattle.check_names.specs.Promises as names
 use Rattle.check_names.proofs.Unique.{declare-unique}
 use Rattle.check_spelling.specs.Hash.{buckets, hash_of}
-use Rattle.check_form.specs.declared.Verdict.{Verdict}
+use Rattle.check_expressions.proofs.Unique.{same_breaches}
 use Rattle.check_form.specs.Judged as form
 use Rattle.check_constants.specs.Answers.{cell_of}
 use Rattle.check_sites.specs.Sites.{Site, memory_of, Among, Owns, Filled}
@@ -34,11 +38,11 @@ use Rattle.check_sites.specs.Parts.{TypeBit, Fills, Taken, MakesIn}
 use Rattle.unique.proofs.Stores.{SameCells, same-cells}
 
 -- ---- readings of a cell
-pub type-of-unique : (cell r s : ℕ) → TypeOf cell r → TypeOf cell s → r ≡ s
-type-of-unique cell r s p q = same_codes r s _ p.is q.is
+pub type-of-unique : (cell : ℕ) (r s : ValueType) → TypeOf cell r → TypeOf cell s → r ≡ s
+type-of-unique cell r s p q = type-injective r s (p.is ∙ sym q.is)
 
-pub type-named-unique : (sort r s : ℕ) → TypeNamed sort r → TypeNamed sort s → r ≡ s
-type-named-unique sort r s p q = same_codes r s _ p.is q.is
+pub type-named-unique : (sort : ℕ) (r s : ValueType) → TypeNamed sort r → TypeNamed sort s → r ≡ s
+type-named-unique sort r s p q = type-injective r s (p.is ∙ sym q.is)
 
 pub type-bit-unique : (sort r s : ℕ) → TypeBit sort r → TypeBit sort s → r ≡ s
 type-bit-unique sort r s p q = same_bit r s p.small q.small (p.is ∙ sym q.is)
@@ -75,8 +79,14 @@ filled-unique routine W s D v w p q = record { names = means-unique routine W _ 
 pub hash-unique : (name : List ℕ) (r s : ℕ) → (r ≡ hash_of name) × (r < buckets) → (s ≡ hash_of name) × (s < buckets) → r ≡ s
 hash-unique name r s p q = p.0 ∙ sym q.0
 
-pub form-unique : (code : List ℕ) (words : ℕ) (r s : Verdict) → form.Judged code words r → form.Judged code words s → r ≡ s
-form-unique code words r s p q = p ∙ sym q
+same-told : (r s : Result (Unit {0}) Breach) → form.told r ≡ form.told s → r ≡ s
+same-told (Ok x) (Ok y) e = refl
+same-told (Ok x) (Err g) e = apart (cc)
+same-told (Err f) (Ok y) e = apart (cc)
+same-told (Err f) (Err g) e = let q : as_fault f ≡ as_fault g = cc in ap Err (same_breaches f g q)
+
+pub form-unique : (code : List ℕ) (words : ℕ) (r s : Result (Unit {0}) Breach) → form.Judged code words r → form.Judged code words s → r ≡ s
+form-unique code words r s p q = same-told r s (p ∙ sym q)
 
 -- ---- cells with one word
 pub fill-unique : (before a b : List ℕ) (from count v : ℕ) → Fills before a from count v → Fills before b from count v → SameCells a b

@@ -1,8 +1,9 @@
 -- The layer Run: what its promises settle. That a list is one of bytes (`Bytes`) is known of everything that is lent.
+use Rattle.std.specs.Prelude.{Some, None}
 use mathlib.Core.Path.{◌≡◌, refl, sym, ap, ap₂, subst, ◌∙◌}
 use mathlib.Core.Bool.{Bool}
 use mathlib.Core.List.{List, [], ◌++◌, map}
-use Prim.Native.Nat.{ℕ, suc, ◌+◌, ◌-◌, ◌*◌, ◌<◌, ◌≤◌}
+use Prim.Native.Nat.{ℕ, suc, ◌+◌, ◌*◌, ◌<◌, ◌≤◌}
 use native.Mathlib.Omega.{arith}
 use lib.ListN.{length, get_or, take, drop, take-append-drop, drop_of_length-le}
 use lib.Seq.{length-take-le}
@@ -10,7 +11,7 @@ use lib.IntN.{ℤ, pos}
 use mir.Syntax.{w32}
 use mir.Val.{to_z}
 use Rattle.laws.proofs.Tests.{apart}
-use Rattle.paper.specs.Terms.{Ref, Located, at, fails}
+use Rattle.paper.specs.Terms.{Ref, Located}
 use Rattle.paper.specs.Steps.{Program}
 use Rattle.paper.specs.States.{State, Rooms, with_calls}
 use Rattle.paper.specs.Running.{next_step, Outcome}
@@ -22,23 +23,26 @@ use Rattle.store_cells.proofs.Kept.{put-unique}
 use Rattle.code.specs.Cells.{window_of, errno_cell, place_at}
 use Rattle.code.specs.Steps.{Head}
 use Rattle.code.specs.Windows.{ends_cell, steps_cell, written_cell, used_cell, count_at, call_in, waiting, written_in, state_in}
+use Rattle.layout.specs.declared.endings.Ending.{Ending}
+use Rattle.layout.specs.Endings.{ending_number}
+use Rattle.layout.proofs.EndingNumbers.{same-ending}
 use Rattle.store_reading.specs.Reading.{cell_values}
 use Rattle.check_load.proofs.Unique.{same_store}
 use Rattle.run_machine.specs.Machine.{store_bytes, effect_at, Here, LastWindow, KeepsRun, Performs, Calls, Lends, Steps, Stepped}
 use Rattle.run_machine.proofs.States.{depth_is}
 use Rattle.run_targets.specs.Targets.{ref_cell, Tells, found, lost, Indexes, Found, Target, Spotted}
 use Rattle.run_starting.specs.Starting.{Starts, Started}
-use Rattle.run_errors.specs.declared.Taken.{Taken}
+use Rattle.run_errors.specs.Taken.{Taken}
+use Rattle.run_errors.specs.declared.Machine.{Machine}
 use Rattle.run_calls.specs.Calling.{Deepest}
 use Rattle.run_errors.specs.Errors.{Raises, raises, hands_on, Settles, stops, resumes, Arisen}
 use Rattle.run_undoing.specs.Dropping as drops
 use Rattle.run_undoing.specs.Dropping.{Stands, Falls, gone, begins, Dropped, Quits, without, Left}
 use Rattle.run_undoing.proofs.ListsLeft.{noted_here}
 use Rattle.run_output.specs.Output.{count_in, Prints, Writes, Wrote, WroteOf, WasRead}
-use Rattle.run_advancing.specs.declared.Machine.{Machine}
 use Rattle.run_advancing.specs.declared.Turn.{Turn}
 use Rattle.run_advancing.specs.declared.Turn.TheVariants.{On, Over}
-use Rattle.run_advancing.specs.Turns.{told, made_with, Turns, on, over, Leaves, Advances}
+use Rattle.run_advancing.specs.Turns.{told, made_with, halt, Turns, on, over, Leaves, Advances}
 use Rattle.run_advancing.specs.Turns as turns
 use Rattle.run_whole.specs.declared.Abort.{Abort}
 use Rattle.run_whole.specs.declared.Ended.{Ended}
@@ -225,23 +229,24 @@ module _ {code values : List ℕ} {base i : ℕ} (h : Here code values base i) (
   module _ (steps : ℕ) (out : List ℕ) where
     pub data OneTaken : Type 0 where
       -- the run dies: no call is named, and one state is left
-      died : t.next ≡ 0 → u.next ≡ 0 → state_in h.P h.R (cells_of a) h.d i steps out ≡ state_in h.P h.R (cells_of b) h.d i steps out → OneTaken
+      died : t ≡ None → u ≡ None → state_in h.P h.R (cells_of a) h.d i steps out ≡ state_in h.P h.R (cells_of b) h.d i steps out → OneTaken
       -- it goes on: by one call, in one state
-      taken : (c : ℕ) → t ≡ u → t.base ≡ window_of c → OneState h.P h.R c t.next steps (cells_of a) out (cells_of b) out → OneTaken
+      taken : (c : ℕ) (m : Machine) → t ≡ u → t ≡ Some m → m.base ≡ window_of c → OneState h.P h.R c m.next steps (cells_of a) out (cells_of b) out → OneTaken
 
     settled : (place : ℕ) (o : Outcome) → Settles h.P h.R (cells_of a) h.d i steps place out t o → Settles h.P h.R (cells_of b) h.d i steps place out u o → OneTaken
     unfolding state_of
     settled place o (stops n l e) (stops m v f) = died n m (ap state_of (sym e ∙ f))
-    settled place o (stops n v e) (resumes c m g d l f) = apart (cc)
-    settled place o (resumes c m g d l e) (stops n v f) = apart (cc)
-    settled place o (resumes c n g d l e) (resumes k m j q v f) =
+    settled place o (stops n v e) (resumes c x z m g d l f) = apart (cc)
+    settled place o (resumes c x z m g d l e) (stops n v f) = apart (cc)
+    settled place o (resumes c x z n g d l e) (resumes k y w m j q v f) =
         let P = h.P in
         let R = h.R in
-        let state : state_in P R (cells_of a) c t.next steps out ≡ state_in P R (cells_of b) k u.next steps out = ap state_of (sym e ∙ f) in
-        let depth : c ≡ k = same-depth P R steps (cells_of a) (cells_of b) out out c t.next k u.next state in
-        let next : t.next ≡ u.next = same_next P R steps (cells_of a) (cells_of b) out out c t.next k u.next state in
-        let window : t.base ≡ u.base = g ∙ ap window_of depth ∙ sym j in
-        taken c (λ x. record { next = next x; base = window x }) g (meet P R steps (cells_of a) (cells_of b) out out c t.next k u.next state l v)
+        let state : state_in P R (cells_of a) c x.next steps out ≡ state_in P R (cells_of b) k y.next steps out = ap state_of (sym e ∙ f) in
+        let depth : c ≡ k = same-depth P R steps (cells_of a) (cells_of b) out out c x.next k y.next state in
+        let next : x.next ≡ y.next = same_next P R steps (cells_of a) (cells_of b) out out c x.next k y.next state in
+        let window : x.base ≡ y.base = g ∙ ap window_of depth ∙ sym j in
+        let machine : x ≡ y = λ i. record { next = next i; base = window i } in
+        taken c x (z ∙ ap Some machine ∙ sym w) z g (meet P R steps (cells_of a) (cells_of b) out out c x.next k y.next state l v)
 
   pub record OneArisen : Type 0 where
     pub settles : (steps : ℕ) (out : List ℕ) → OneTaken steps out
@@ -266,14 +271,15 @@ module _ (P : Program) (R : List Head) (X : List ℕ) (k : ℕ) (out : List ℕ)
   none_left n c e f = absurd (callless-not P R k X out X out c n (sym e ∙ f))
 
   falls-unique : Falls P R X k out t s → Falls P R X k out u s → t ≡ u
-  falls-unique (gone n b e) (gone m c f) = λ j. record { next = (n ∙ sym m) j; base = (b ∙ sym c) j }
-  falls-unique (gone n b e) (begins c m g d l f) = none_left u.next c e f
-  falls-unique (begins c m g d l f) (gone n b e) = none_left t.next c e f
-  falls-unique (begins c m g d l e) (begins c' m' g' d' l' f) =
-      let depth : c ≡ c' = same-depth P R k X X out out c t.next c' u.next (sym e ∙ f) in
-      let next : t.next ≡ u.next = same_next P R k X X out out c t.next c' u.next (sym e ∙ f) in
-      let window : t.base ≡ u.base = g ∙ ap window_of depth ∙ sym g' in
-      λ j. record { next = next j; base = window j }
+  falls-unique (gone n e) (gone m f) = n ∙ sym m
+  falls-unique (gone n e) (begins c x z m g d l f) = none_left x.next c e f
+  falls-unique (begins c x z m g d l f) (gone n e) = none_left x.next c e f
+  falls-unique (begins c x z m g d l e) (begins c' y w m' g' d' l' f) =
+      let depth : c ≡ c' = same-depth P R k X X out out c x.next c' y.next (sym e ∙ f) in
+      let next : x.next ≡ y.next = same_next P R k X X out out c x.next c' y.next (sym e ∙ f) in
+      let window : x.base ≡ y.base = g ∙ ap window_of depth ∙ sym g' in
+      let machine : x ≡ y = λ j. record { next = next j; base = window j } in
+      z ∙ ap Some machine ∙ sym w
 
 pub drop-to-unique : {code values : List ℕ} {base : ℕ} {t u : Taken} → Stands code values base → Dropped code values base t → Dropped code values base u → t ≡ u
 drop-to-unique {values = values} {t = t} {u = u} s p q =
@@ -338,11 +344,11 @@ module _ (P : Program) (R : List Head) (d i steps : ℕ) (a o b p : List ℕ) (t
     turns-unique (on e m x de g l f) (turns.gone ab x' f') = absurd (callless-not P R (steps + 1) (cells_of b) p (cells_of a) o e m.next (ap state_of (sym f' ∙ f)))
     turns-unique (over n k c x l f) (on e' m' x' de' g' l' f') = apart (cc)
     turns-unique (over n k c x l f) (over n' k' c' x' l' f') =
-        let ending : n ≡ n' = ap (λ (y : Outcome). (end_of y).ending) (sym f ∙ f') in
+        let ending : n ≡ n' = same-ending n n' (ap (λ (y : Outcome). (end_of y).ending) (sym f ∙ f')) in
         let place : k ≡ k' = ap (λ (y : Outcome). (end_of y).place) (sym f ∙ f') in
         let counts : c ≡ c' = cc in
         let state : state_in P R (cells_of a) d i (made_with c steps) o ≡ state_in P R (cells_of b) d i (made_with c steps) p = ap state_of (sym f ∙ f') ∙ ap (λ (y : Bool). state_in P R (cells_of b) d i (made_with y steps) p) (sym counts) in
-        both_over c (x ∙ ap₂ (λ (y z : ℕ). Over y (told offset y z) c) ending place ∙ ap (Over n' (told offset n' k')) counts ∙ sym x')
+        both_over c (x ∙ ap₂ (λ (y : Ending) (z : ℕ). Over (halt y (told offset (ending_number y) z) c)) ending place ∙ ap (λ (y : Bool). Over (halt n' (told offset (ending_number n') k') y)) counts ∙ sym x')
         (meet P R (made_with c steps) (cells_of a) (cells_of b) o p d i d i state l l')
     turns-unique (over n k c x l f) (turns.gone ab x' f') = apart (cc)
     turns-unique (turns.gone ab x f) (on e' m' x' de' g' l' f') = absurd (callless-not P R (steps + 1) (cells_of a) o (cells_of b) p e' m'.next (ap state_of (sym f ∙ f')))
@@ -432,7 +438,7 @@ module _ {P : Program} {R : List Head} {offset : ℕ → ℕ} {values a out o b 
     (l : Leaves values a out o) (k : Leaves values b out p) (x : runs.Comes P R offset a o e r) (y : runs.Comes P R offset b p e s) where
   came-answer : r ≡ s
   came-answer =
-      let ending : r.ending ≡ s.ending = x.ending ∙ sym y.ending in
+      let ending : r.ending ≡ s.ending = same-ending r.ending s.ending (x.ending ∙ sym y.ending) in
       let place : r.place ≡ s.place = x.place ∙ sym y.place in
       let made : r.made ≡ s.made = x.made ∙ sym y.made in
       λ j. record { ending = ending j; place = place j; made = made j }

@@ -11,4 +11,4 @@ settle-requires c =
 
 pub returns : goal.returns
 returns c =
-    carried c.requires c.run_words-e.ensures c.settle.ensures
+    carried c.requires c.run_words-e.ensures _ c.number.ensures c.settle.ensures

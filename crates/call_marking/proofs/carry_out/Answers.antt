@@ -12,4 +12,4 @@ settle-requires c =
 
 pub returns : goal.returns
 returns c =
-    mark-carried c.requires.0 c.mark_words-r.ensures c.settle.ensures c.put_mark.ensures
+    mark-carried c.requires.0 c.mark_words-r.ensures _ c.number.ensures c.settle.ensures _ c.from.ensures c.put_mark.ensures

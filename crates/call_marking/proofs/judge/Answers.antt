@@ -7,9 +7,9 @@ pub carry_out-requires : goal.carry_out-requires
 carry_out-requires c =
     (search (rules, accepts), search rules)
 
-pub returns-in-Refused : goal.returns-in-Refused
-returns-in-Refused c = search (rules, mark-refused)
+pub returns-in-Err : goal.returns-in-Err
+returns-in-Err c = search (rules, mark-refused)
 
-pub returns-in-Accepted : goal.returns-in-Accepted
-returns-in-Accepted c =
-    mark-judged _ _ _ _ c.requires.0 _ _ _ _ _ _ c.check.ensures c.in-Accepted.is c.carry_out.ensures
+pub returns-in-Ok : goal.returns-in-Ok
+returns-in-Ok c =
+    mark-judged _ _ _ _ c.requires.0 _ _ _ _ c.check.ensures c.in-Ok.is c.carry_out.ensures

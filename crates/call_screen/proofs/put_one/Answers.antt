@@ -10,11 +10,11 @@ bounds-line-next c = search (rules, one_inside)
 
 pub overflow_add-result : goal.overflow_add-result
 overflow_add-result c =
-    let h : c.in-Done.next + 1 ≤ length c.args.line.now = search (rules, one-near) in
+    let h : c.in-Some.next + 1 ≤ length c.args.line.now = search (rules, one-near) in
     record { fits = omega arith }
 
-pub returns-in-Done : goal.returns-in-Done
-returns-in-Done c = search (rules, one-done)
+pub returns-in-Some : goal.returns-in-Some
+returns-in-Some c = search (rules, one-done)
 
-pub returns-in-NoRoom : goal.returns-in-NoRoom
-returns-in-NoRoom c = search (rules, one_none)
+pub returns-in-None : goal.returns-in-None
+returns-in-None c = search (rules, one_none)

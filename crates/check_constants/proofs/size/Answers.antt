@@ -1,22 +1,17 @@
 use borrow.Author.Rules.{rules}
-use Rattle.layout.proofs.Typing.{num-type}
-use Rattle.check_constants.proofs.ConstantsWorth.{size-faulty, size_low, size-high, size-cast, size-fine}
+use Rattle.std.proofs.lemmas.Result.{err_from_is_err_and}
+use Rattle.check_constants.proofs.ConstantsWorth.{size-faulty, size_low, size-high, size-fine}
 use Rattle.check_constants.proofs.size.Goals as goal
 
-pub constant-c-requires : goal.constant-c-requires
-constant-c-requires c = search (rules, num-type)
+pub returns-in_err-v : goal.returns-in_err-v
+returns-in_err-v c = let p = err_from_is_err_and c.from_residual.result c.from_residual.ensures.1 in rw (p.1, p.2) (size-faulty _ _ _ _ _ c.constant.ensures _ c.in_err-v.was)
 
 pub returns-then-v-lt1 : goal.returns-then-v-lt1
-returns-then-v-lt1 c = search (rules, size_low)
+returns-then-v-lt1 c =
+    elim c.then-v-lt1.branch [
+      | goal.then-v-lt1-via-then-v-lt1 w ↦ size_low _ _ _ _ _ c.constant.ensures _ _ c.in_ok-v.was w.if-v-lt1.true
+      | goal.then-v-lt1-via-else-v-lt1+then-v-gt-ELEMENT_COUNT w ↦ size-high _ _ _ _ _ c.constant.ensures _ _ c.in_ok-v.was w.if-v-lt1.false w.if-v-gt-ELEMENT_COUNT.true
+    ]
 
-pub returns-then-v-gt-ELEMENT_COUNT : goal.returns-then-v-gt-ELEMENT_COUNT
-returns-then-v-gt-ELEMENT_COUNT c = search (rules, size-high)
-
-pub overflow_cast-result : goal.overflow_cast-result
-overflow_cast-result c = size-cast c.in-Value.v (search rules) (search rules)
-
-pub returns-in-Faulty : goal.returns-in-Faulty
-returns-in-Faulty c = search (rules, size-faulty)
-
-pub returns-else-v-gt-ELEMENT_COUNT : goal.returns-else-v-gt-ELEMENT_COUNT
-returns-else-v-gt-ELEMENT_COUNT c = search (rules, size-fine)
+pub returns : goal.returns
+returns c = size-fine _ _ _ _ _ c.constant.ensures _ _ c.in_ok-v.was (search rules) (search rules)

@@ -1,34 +1,41 @@
 use borrow.Author.Rules.{rules}
-use Rattle.check_datum.proofs.Contents.{array-asks, count-adds, count-above, count-packs, count-value, count-scope, next-adds, array-faulty, array-crosses, array-goes}
+use Rattle.std.proofs.lemmas.Result.{err_from_is_err_and}
+use Rattle.check_datum.proofs.Contents.{array-asks, count-adds, count-value, count-scope, next-adds, array-faulty, array-crosses, array-goes}
 use Rattle.check_datum.proofs.Scalars.{made-used, made-grown}
 use Rattle.check_datum.proofs.array.Goals as goal
 
-pub size-c-requires : goal.size-c-requires
-size-c-requires c = search (rules, array-asks)
+pub size-requires : goal.size-requires
+size-requires c = search (rules, array-asks)
+
+pub returns-in_err-count : goal.returns-in_err-count
+returns-in_err-count c =
+    let p = err_from_is_err_and c.from_residual.result c.from_residual.ensures.1 in
+    rw (p.1, p.2) (array-faulty c.requires.2 _ _ c.size.ensures _ c.in_err-count.was, tt)
 
 pub overflow_add-used : goal.overflow_add-used
-overflow_add-used c = search (rules, count-adds, array-asks)
+overflow_add-used c =
+    count-adds _ _ _ _ _ (array-asks c.requires.2 c.requires.0) c.size.ensures _ _ c.in_ok-count.was _ _ c.requires.1.4 c.requires.1.5
 
-pub returns-then-limit-used : goal.returns-then-limit-used
-returns-then-limit-used c = search (rules, array-crosses)
-
-pub overflow_mul-count : goal.overflow_mul-count
-overflow_mul-count c = search (rules, count-above, array-asks)
-
-pub overflow_add-used-in-Count : goal.overflow_add-used-in-Count
-overflow_add-used-in-Count c = search (rules, count-packs, array-asks)
+pub returns-then-site-used : goal.returns-then-site-used
+returns-then-site-used c = (array-crosses c.requires.2 _ _ c.size.ensures _ _ c.in_ok-count.was (search rules), tt)
 
 pub known-filled-requires : goal.known-filled-requires
-known-filled-requires c = (search rules, search rules, search rules, search rules, search rules, search (rules, count-value, array-asks), search (rules, count-scope, array-asks))
+known-filled-requires c =
+    let asks = array-asks c.requires.2 c.requires.0 in (
+      search rules,
+      search rules,
+      search rules,
+      search rules,
+      search rules,
+      count-value _ _ _ _ _ asks c.size.ensures _ _ c.in_ok-count.was _ _ c.requires.1.4 c.requires.1.5,
+      count-scope _ _ _ _ _ asks c.size.ensures _ _ c.in_ok-count.was _ _ c.requires.1.4 c.requires.1.5,
+    )
 
-pub overflow_add-result-in-Count : goal.overflow_add-result-in-Count
-overflow_add-result-in-Count c =
-    next-adds _ _ _ _ _ (array-asks c.requires.2 c.requires.0) c.size-c.ensures _ _ c.in-Count.is
+pub overflow_add-result-2 : goal.overflow_add-result-2
+overflow_add-result-2 c =
+    next-adds _ _ _ _ _ (array-asks c.requires.2 c.requires.0) c.size.ensures _ _ c.in_ok-count.was
 
-pub returns-in-Unsized : goal.returns-in-Unsized
-returns-in-Unsized c = search (rules, array-faulty)
-
-pub returns-else-limit-used : goal.returns-else-limit-used
-returns-else-limit-used c =
+pub returns : goal.returns
+returns c =
     let made = c.known-filled.ensures in
-    (array-goes c.requires.2 _ _ c.size-c.ensures _ _ c.in-Count.is c.if-limit-used.false _ _ _ _ made.makes c.start.ensures _ (made-used made), made-grown made)
+    (array-goes c.requires.2 _ _ c.size.ensures _ _ c.in_ok-count.was c.if-site-used.false _ _ _ _ made.makes c.start.ensures _ (made-used made), made-grown made)

@@ -5,8 +5,8 @@ use Rattle.check_datum.specs.Parts.{scalar_kind}
 use Rattle.check_datum.proofs.Scalars.{kind-low, scalar_crosses, scalar-plain, made-used, made-grown}
 use Rattle.check_datum.proofs.scalar.Goals as goal
 
-pub returns-then-limit-used : goal.returns-then-limit-used
-returns-then-limit-used c = search (rules, scalar_crosses)
+pub returns-then-site-used : goal.returns-then-site-used
+returns-then-site-used c = search (rules, scalar_crosses)
 
 pub known-filled-requires : goal.known-filled-requires
 known-filled-requires c = (search rules, search rules, search rules, search (rules, kind-low), search rules, search rules, search rules)

@@ -1,6 +1,7 @@
 use borrow.Author.Rules.{rules}
-use Rattle.check_names.proofs.Growing.{grown-self, grown-on, grown-upto, stays_on}
-use Rattle.check_declarations.proofs.DataWalk.{module-begun, module-room, module-datum, module-near, module-faulty, module-falls, module-long, module-long-values, module-on, module-done}
+use Rattle.check_names.proofs.Growing.{grown-self, grown-on, grown-upto}
+use Rattle.check_declarations.proofs.DataWalk.{module-begun, module-room, module-datum, module-near, module-faulty, module-falls, module-on, module-done}
+use Rattle.std.proofs.lemmas.Result.{err_from_is_err_and}
 use Rattle.check_declarations.proofs.module_data.Goals as goal
 
 pub loop-code-init : goal.loop-code-init
@@ -9,29 +10,23 @@ loop-code-init c = search (rules, module-begun, grown-self)
 pub sort-requires : goal.sort-requires
 sort-requires c = search (rules, module-room)
 
-pub datum-d-requires : goal.datum-d-requires
-datum-d-requires c = (search (rules, module-datum), search (rules, module-near))
+pub datum-requires : goal.datum-requires
+datum-requires c = (search (rules, module-datum), search (rules, module-near))
 
-pub shape_of-code-in_default : goal.shape_of-code-in_default
-shape_of-code-in_default c = search (rules, module-long, module-long-values)
-
-pub shape_of-values-in_default : goal.shape_of-values-in_default
-shape_of-values-in_default c = search (rules, module-long, module-long-values)
-
-pub returns-in_default : goal.returns-in_default
-returns-in_default c = search (rules, module-faulty, stays_on)
+pub returns-in_err-next : goal.returns-in_err-next
+returns-in_err-next c =
+    let p = err_from_is_err_and c.from_residual.result c.from_residual.ensures.1 in
+    rw (p.1, p.2) (module-faulty _ _ _ _ _ _ _ c.loop-code.invariant.0 _ c.sort.ensures _ c.starts_data.ensures c.loop-code-test.true _ _ _ c.datum.ensures.0 _ c.in_err-next.was, tt)
 
 pub loop-code-smaller : goal.loop-code-smaller
-loop-code-smaller c = search (rules, module-falls)
+loop-code-smaller c =
+    module-falls _ _ _ _ _ _ _ c.loop-code.invariant.0 _ c.sort.ensures _ c.starts_data.ensures c.loop-code-test.true _ _ _ c.datum.ensures.0 _ _ c.in_ok-next.was c.requires.0
 
 pub loop-code-preserved : goal.loop-code-preserved
-loop-code-preserved c = search (rules, module-on, grown-upto, grown-on)
-
-pub shape_of-code : goal.shape_of-code
-shape_of-code c = search (rules, module-long, module-long-values)
-
-pub shape_of-values : goal.shape_of-values
-shape_of-values c = search (rules, module-long, module-long-values)
+loop-code-preserved c = (
+  module-on _ _ _ _ _ _ _ c.loop-code.invariant.0 _ c.sort.ensures _ c.starts_data.ensures c.loop-code-test.true _ _ _ c.datum.ensures.0 _ _ c.in_ok-next.was c.requires.0 (search rules) (search rules),
+  grown-on c.loop-code.invariant.1 (grown-upto _ _ c.datum.ensures.1 _ _ c.in_ok-next.was),
+)
 
 pub returns : goal.returns
 returns c = search (rules, module-done)

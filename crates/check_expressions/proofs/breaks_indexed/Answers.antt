@@ -1,18 +1,19 @@
 use borrow.Author.Rules.{rules}
-use Rattle.check_expressions.proofs.Leaves.{indexed-unknown, indexed-beyond, indexed-other, indexed-only, indexed-fine}
+use native.Mathlib.Omega.{arith}
+use Rattle.check_expressions.proofs.Leaves.{indexed-unknown, indexed-other, indexed-only}
 use Rattle.check_expressions.proofs.breaks_indexed.Goals as goal
 
-pub returns-then-kind-eq0 : goal.returns-then-kind-eq0
-returns-then-kind-eq0 c = search (rules, indexed-unknown)
+pub returns-in-1-to-7 : goal.returns-in-1-to-7
+returns-in-1-to-7 c = search (rules, indexed-only)
 
-pub returns-then-kind-gt-ERROR_NUMBER : goal.returns-then-kind-gt-ERROR_NUMBER
-returns-then-kind-gt-ERROR_NUMBER c = search (rules, indexed-beyond)
+pub returns-in-1-to-7-2 : goal.returns-in-1-to-7-2
+returns-in-1-to-7-2 c = indexed-other _ _ (omega arith) (omega arith) (λ z. omega arith)
 
-pub returns-then-kind-ne-ARRAY : goal.returns-then-kind-ne-ARRAY
-returns-then-kind-ne-ARRAY c = search (rules, indexed-other)
+pub returns-in-1-to-7-3 : goal.returns-in-1-to-7-3
+returns-in-1-to-7-3 c = indexed-other _ _ (omega arith) (omega arith) (λ z. omega arith)
 
-pub returns-then-only : goal.returns-then-only
-returns-then-only c = search (rules, indexed-only)
+pub returns-in_default : goal.returns-in_default
+returns-in_default c = indexed-unknown _ _ (λ h g. omega arith)
 
-pub returns : goal.returns
-returns c = search (rules, indexed-fine)
+pub returns-in_default-2 : goal.returns-in_default-2
+returns-in_default-2 c = indexed-unknown _ _ (λ h g. omega arith)

@@ -1,15 +1,11 @@
-use borrow.Author.Rules.{rules}
-use Rattle.check_expressions.proofs.Leaves.{number_fits, literal-number, literal-true, literal-false}
+use native.Mathlib.Omega.{arith}
+use Rattle.check_expressions.proofs.Leaves.{told-is, literal-number, literal-true, literal-false}
 use Rattle.check_expressions.proofs.literal.Goals as goal
 
-pub set_head-requires : goal.set_head-requires
-set_head-requires c = search (rules, number_fits)
-
-pub returns-then-s-eq-NUMBER : goal.returns-then-s-eq-NUMBER
-returns-then-s-eq-NUMBER c = search (rules, literal-number)
-
-pub returns-then-s-eq-TRUE : goal.returns-then-s-eq-TRUE
-returns-then-s-eq-TRUE c = search (rules, literal-true)
-
 pub returns : goal.returns
-returns c = search (rules, literal-false)
+returns c =
+    elim c.match-w-rem256.branch [
+      | goal.in-2 w ↦ told-is _ _ _ _ _ w.t-is c.set_head.ensures (literal-number _ _ _ _ c.head-w.ensures w.in-2.is)
+      | goal.in-81 w ↦ told-is _ _ _ _ _ w.t-is c.set_head.ensures (literal-true _ _ _ _ c.head-w.ensures w.in-81.is)
+      | goal.in_default w ↦ told-is _ _ _ _ _ w.t-is c.set_head.ensures (literal-false _ _ _ _ c.head-w.ensures (λ z. grind arith) (λ z. grind arith))
+    ]

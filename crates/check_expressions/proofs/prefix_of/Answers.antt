@@ -6,13 +6,13 @@ use Rattle.code.specs.Spans.{a_not, a_minus, prefix_in}
 use Rattle.check_expressions.proofs.Operators.{prefix_here, prefix-plus}
 use Rattle.check_expressions.proofs.prefix_of.Goals as goal
 
-pub returns-then-s-eq-NOT : goal.returns-then-s-eq-NOT
+pub returns-in-65 : goal.returns-in-65
 unfolding prefix_in
-returns-then-s-eq-NOT c = prefix_here _ NOT a_not c.if-s-eq-NOT.true (omega arith) (omega arith) refl
+returns-in-65 c = prefix_here _ NOT a_not c.in-65.is (omega arith) (omega arith) refl
 
-pub returns-then-s-eq-MINUS_SIGN : goal.returns-then-s-eq-MINUS_SIGN
+pub returns-in-19 : goal.returns-in-19
 unfolding prefix_in
-returns-then-s-eq-MINUS_SIGN c = prefix_here _ minus_sign a_minus c.if-s-eq-MINUS_SIGN.true (omega arith) (omega arith) refl
+returns-in-19 c = prefix_here _ minus_sign a_minus c.in-19.is (omega arith) (omega arith) refl
 
-pub returns : goal.returns
-returns c = search (rules, prefix-plus)
+pub returns-in_default : goal.returns-in_default
+returns-in_default c = search (rules, prefix-plus)

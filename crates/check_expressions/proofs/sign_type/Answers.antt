@@ -5,5 +5,5 @@ use Rattle.check_expressions.proofs.sign_type.Goals as goal
 pub returns-then-s-eq-NOT : goal.returns-then-s-eq-NOT
 returns-then-s-eq-NOT c = search (rules, sign-not)
 
-pub returns : goal.returns
-returns c = search (rules, sign-other)
+pub returns-else-s-eq-NOT : goal.returns-else-s-eq-NOT
+returns-else-s-eq-NOT c = search (rules, sign-other)

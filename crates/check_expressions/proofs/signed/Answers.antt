@@ -1,15 +1,18 @@
 use borrow.Author.Rules.{rules}
+use Rattle.std.proofs.lemmas.Result.{err_from_is_err_and}
 use Rattle.check_expressions.proofs.Around.{short-link, signed-faulty, signed-wrong, signed-typed}
+use Rattle.check_expressions.proofs.TypesCompared.{told-apart, told-same}
 use Rattle.check_expressions.proofs.signed.Goals as goal
 
-pub returns-in_default : goal.returns-in_default
-returns-in_default c = search (rules, signed-faulty)
+pub returns-in_err-t : goal.returns-in_err-t
+returns-in_err-t c =
+    let p = err_from_is_err_and c.from_residual.result c.from_residual.ensures.1 in rw (p.1, p.2) (signed-faulty _ _ _ _ _ c.in_err-t.was)
 
-pub returns-then-t-sign_type : goal.returns-then-t-sign_type
-returns-then-t-sign_type c = search (rules, signed-wrong)
+pub returns-then-ne : goal.returns-then-ne
+returns-then-ne c = signed-wrong _ _ _ _ _ _ c.in_ok-t.was _ c.sign_type.ensures (told-apart _ _ c.if-ne.ensures)
 
 pub set_word-requires : goal.set_word-requires
 set_word-requires c = search (rules, short-link)
 
 pub returns : goal.returns
-returns c = search (rules, signed-typed)
+returns c = search (rules, signed-typed, told-same)

@@ -1,17 +1,15 @@
 use borrow.Author.Rules.{rules}
-use Rattle.check_form.specs.Places.{whole}
-use Rattle.check_form.proofs.Reading.{after}
-use Rattle.check_form.proofs.Whole.{form-formed, form-more, form-refused}
+use Rattle.std.proofs.lemmas.Result.{err_from_is_err_and}
+use Rattle.check_form.proofs.Whole.{form-refused, form-formed, form-more}
 use Rattle.check_form.proofs.form.Goals as goal
 
+pub returns-in_err-n : goal.returns-in_err-n
+returns-in_err-n c =
+    let p = err_from_is_err_and c.from_residual.result c.from_residual.ensures.1 in
+    rw (p.1, p.2) (search (rules, form-refused, c.in_err-n.was))
+
 pub returns-then-sort-eq-NOTHING : goal.returns-then-sort-eq-NOTHING
-unfolding whole
-returns-then-sort-eq-NOTHING c = search (rules, form-formed, form-more, form-refused, after) depth 9
+returns-then-sort-eq-NOTHING c = search (rules, form-formed, c.in_ok-n.was)
 
-pub returns-in-Refused : goal.returns-in-Refused
-unfolding whole
-returns-in-Refused c = search (rules, form-formed, form-more, form-refused, after) depth 9
-
-pub returns-else-sort-eq-NOTHING : goal.returns-else-sort-eq-NOTHING
-unfolding whole
-returns-else-sort-eq-NOTHING c = search (rules, form-formed, form-more, form-refused, after) depth 9
+pub returns : goal.returns
+returns c = search (rules, form-more, c.in_ok-n.was)

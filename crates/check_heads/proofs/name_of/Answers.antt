@@ -1,12 +1,9 @@
-use Rattle.check_heads.proofs.Leaves.{names-plain, names-last, names-asked}
+use Rattle.check_heads.proofs.Leaves.{names-plain, names-function}
 use borrow.Author.Rules.{rules}
 use Rattle.check_heads.proofs.name_of.Goals as goal
 
 pub returns-then-sort-ne-FUNC : goal.returns-then-sort-ne-FUNC
 returns-then-sort-ne-FUNC c = search (rules, names-plain)
 
-pub returns-then-k-eq-ROUTINES : goal.returns-then-k-eq-ROUTINES
-returns-then-k-eq-ROUTINES c = search (rules, names-last)
-
 pub returns : goal.returns
-returns c = search (rules, names-asked)
+returns c = search (rules, names-function)

@@ -1,5 +1,5 @@
 use borrow.Author.Rules.{rules}
-use Rattle.check_simple.proofs.ArgumentCounts.{count_room, count_none, count-starts, goes-here, goes-fits, goes-less, count_fits, goes-done, goes-on}
+use Rattle.check_simple.proofs.ArgumentCounts.{count_room, count_none, count-starts, goes-here, goes-fits, goes-less, count_fits, comma-counts, goes-done, goes-on}
 use Rattle.check_simple.proofs.count_arguments.Goals as goal
 
 pub sort-requires : goal.sort-requires
@@ -18,7 +18,7 @@ pub returns-then-s-eq-SEMICOLON : goal.returns-then-s-eq-SEMICOLON
 returns-then-s-eq-SEMICOLON c = search (rules, goes-done)
 
 pub overflow_add-count : goal.overflow_add-count
-overflow_add-count c = search (rules, count_fits)
+overflow_add-count c = search (rules, count_fits, comma-counts)
 
 pub overflow_add-i : goal.overflow_add-i
 overflow_add-i c = search (rules, goes-fits)
@@ -27,4 +27,4 @@ pub loop-first-smaller : goal.loop-first-smaller
 loop-first-smaller c = search (rules, goes-less)
 
 pub loop-first-preserved : goal.loop-first-preserved
-loop-first-preserved c = search (rules, goes-on)
+loop-first-preserved c = search (rules, goes-on, comma-counts)

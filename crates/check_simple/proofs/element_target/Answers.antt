@@ -1,4 +1,6 @@
 use borrow.Author.Rules.{rules}
+use mathlib.Core.Path.{sym}
+use Rattle.std.proofs.lemmas.Result.{err_from_is_err_and}
 use native.Mathlib.Omega.{arith}
 use Rattle.check_simple.proofs.Targets.{element-small, index-stands, index-fits, index-end, element-no-array, element-faulty, element-typed}
 use Rattle.check_simple.proofs.element_target.Goals as goal
@@ -9,26 +11,29 @@ returns-then-kind-ne-ARRAY c = search (rules, element-no-array)
 pub overflow_add-at : goal.overflow_add-at
 overflow_add-at c = omega (arith, element-small)
 
-pub of_type-index-requires : goal.of_type-index-requires
-of_type-index-requires c = search (rules, index-stands)
+pub of_type-requires : goal.of_type-requires
+of_type-requires c = search (rules, index-stands)
 
-pub returns-in_default : goal.returns-in_default
-returns-in_default c = search (rules, element-faulty)
+pub returns-in_err-end : goal.returns-in_err-end
+returns-in_err-end c =
+    let w = c.in_err-end.was in
+    let p = err_from_is_err_and c.from_residual.result c.from_residual.ensures.1 in
+    rw (p.1, p.2, sym w) (search (rules, element-faulty))
 
 pub set_head-requires : goal.set_head-requires
 set_head-requires c =
-    let x = (index-end _ _ _ _ c.requires _ _ c.of_type-index.ensures _ _ c.in-Typed.is).1 in search rules
+    let x = (index-end _ _ _ _ c.requires _ _ c.of_type.ensures _ _ c.in_ok-end.was).1 in search rules
 
 pub overflow_add-at-2 : goal.overflow_add-at-2
 overflow_add-at-2 c = omega (arith, element-small)
 
 pub set_link-requires : goal.set_link-requires
 set_link-requires c =
-    let x = index-end _ _ _ _ c.requires _ _ c.of_type-index.ensures _ _ c.in-Typed.is in
+    let x = index-end _ _ _ _ c.requires _ _ c.of_type.ensures _ _ c.in_ok-end.was in
     (omega (arith, x.2, c.set_head.ensures.kept.long), omega (arith, x.0))
 
 pub overflow_add-result : goal.overflow_add-result
-overflow_add-result c = search (rules, index-fits)
+overflow_add-result c = let w = c.in_ok-end.was in search (rules, index-fits)
 
 pub returns : goal.returns
-returns c = search (rules, element-typed)
+returns c = let w = c.in_ok-end.was in search (rules, element-typed)

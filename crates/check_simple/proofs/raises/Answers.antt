@@ -2,7 +2,6 @@ use borrow.Author.Rules.{rules}
 use Rattle.check_simple.proofs.SimpleStatements.{stands_here, stands-next, stands-small}
 use Rattle.check_simple.proofs.ReturnRaiseExit.{raise-values, raised-alone, raised-barred, raised-number}
 use native.Mathlib.Omega.{arith}
-use Rattle.layout.proofs.Typing.{num-type}
 use Rattle.check_simple.proofs.raises.Goals as goal
 
 pub overflow_add-i : goal.overflow_add-i
@@ -17,14 +16,14 @@ word-requires c = (omega (arith, stands_here), omega arith, omega (arith, stands
 pub returns-then-sort-eq-SEMICOLON : goal.returns-then-sort-eq-SEMICOLON
 returns-then-sort-eq-SEMICOLON c = search (rules, raised-alone)
 
-pub returns-then-list-ne-BODY : goal.returns-then-list-ne-BODY
-returns-then-list-ne-BODY c = search (rules, raised-barred)
+pub returns-then-ne : goal.returns-then-ne
+returns-then-ne c = search (rules, raised-barred)
 
 pub overflow_add-i-2 : goal.overflow_add-i-2
 overflow_add-i-2 c = omega (arith, stands-small)
 
 pub with_value-requires : goal.with_value-requires
-with_value-requires c = search (rules, raise-values, num-type)
+with_value-requires c = search (rules, raise-values)
 
 pub returns : goal.returns
 returns c = search (rules, raised-number)

@@ -1,6 +1,5 @@
 use borrow.Author.Rules.{rules}
 use native.Mathlib.Omega.{arith}
-use Rattle.layout.proofs.Typing.{num-type}
 use Rattle.check_simple.proofs.SimpleStatements.{stands-small}
 use Rattle.check_simple.proofs.TPWrite.{writes-string, writes-next, writes-behind, writes-values, writes-fits, wrote-number, wrote-plain}
 use Rattle.check_simple.proofs.writes.Goals as goal
@@ -23,7 +22,7 @@ overflow_add-i-then-sort-eq-BACKSLASH c =
 
 pub with_value-requires : goal.with_value-requires
 with_value-requires c =
-    (writes-values _ _ _ _ c.requires _ c.string.ensures _ c.sort.ensures c.if-sort-eq-BACKSLASH.true, omega arith, num-type)
+    (writes-values _ _ _ _ c.requires _ c.string.ensures _ c.sort.ensures c.if-sort-eq-BACKSLASH.true, omega arith)
 
 pub returns-then-sort-eq-BACKSLASH : goal.returns-then-sort-eq-BACKSLASH
 returns-then-sort-eq-BACKSLASH c = search (rules, wrote-number)

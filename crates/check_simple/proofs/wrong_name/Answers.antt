@@ -2,11 +2,11 @@ use borrow.Author.Rules.{rules}
 use Rattle.check_simple.proofs.KindsAndTypes.{wrong-none, wrong-high, wrong-other}
 use Rattle.check_simple.proofs.wrong_name.Goals as goal
 
-pub returns-then-kind-eq0 : goal.returns-then-kind-eq0
-returns-then-kind-eq0 c = search (rules, wrong-none)
+pub returns-in-1-to-7 : goal.returns-in-1-to-7
+returns-in-1-to-7 c = search (rules, wrong-other)
 
-pub returns-then-kind-gt-ERROR_NUMBER : goal.returns-then-kind-gt-ERROR_NUMBER
-returns-then-kind-gt-ERROR_NUMBER c = search (rules, wrong-high)
+pub returns-in_default : goal.returns-in_default
+returns-in_default c = search (rules, wrong-none)
 
-pub returns : goal.returns
-returns c = search (rules, wrong-other)
+pub returns-in_default-2 : goal.returns-in_default-2
+returns-in_default-2 c = search (rules, wrong-high)

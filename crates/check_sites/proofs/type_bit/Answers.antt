@@ -1,9 +1,8 @@
-use borrow.Author.Rules.{rules}
 use Rattle.check_sites.proofs.Words.{type-num, type-bool}
 use Rattle.check_sites.proofs.type_bit.Goals as goal
 
-pub returns-then-s-eq-NUM : goal.returns-then-s-eq-NUM
-returns-then-s-eq-NUM c = search (rules, type-num)
+pub returns-in-Num : goal.returns-in-Num
+returns-in-Num c = type-num _ c.in-Num.ensures
 
-pub returns : goal.returns
-returns c = search (rules, type-bool)
+pub returns-in-Bool : goal.returns-in-Bool
+returns-in-Bool c = type-bool _ c.in-Bool.ensures

@@ -2,8 +2,8 @@ use Rattle.check_spelling.proofs.ProtectedNames.{errno-cell, overflow-cell, divi
 use borrow.Author.Rules.{rules}
 use Rattle.check_spelling.proofs.protected.Goals as goal
 
-pub returns-then-fold-ne69 : goal.returns-then-fold-ne69
-returns-then-fold-ne69 c = search (rules, not-e)
+pub returns-then-to_ascii_uppercase-ne69 : goal.returns-then-to_ascii_uppercase-ne69
+returns-then-to_ascii_uppercase-ne69 c = search (rules, not-e)
 
 pub returns-then-same : goal.returns-then-same
 returns-then-same c = search (rules, errno-cell)

@@ -50,8 +50,8 @@ invariant-full_if-loop-e l = Armings l.text l.initial.code l.initial.values l.k 
 abbrev pub decreases-full_if-loop-e : goal.decreases-full_if-loop-e
 decreases-full_if-loop-e l = word_limit - l.t
 
-abbrev pub invariant-list-loop-code : goal.invariant-list-loop-code
-invariant-list-loop-code l = Goings l.text l.initial.code l.initial.values l.k l.initial.n.used l.at l.code l.values l.i l.n.used × Grown l.initial.n l.n
+abbrev pub invariant-list-loop-k : goal.invariant-list-loop-k
+invariant-list-loop-k l = Goings l.text l.initial.code l.initial.values l.k l.initial.n.used l.at l.code l.values l.i l.n.used × Grown l.initial.n l.n
 
-abbrev pub decreases-list-loop-code : goal.decreases-list-loop-code
-decreases-list-loop-code l = word_limit - l.i
+abbrev pub decreases-list-loop-k : goal.decreases-list-loop-k
+decreases-list-loop-k l = word_limit - l.i

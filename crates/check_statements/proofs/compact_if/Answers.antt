@@ -1,11 +1,13 @@
 use borrow.Author.Rules.{rules}
+use mathlib.Core.Path.{refl}
+use native.Mathlib.Omega.{arith}
+use Rattle.std.proofs.lemmas.Result.{err_from_is_err_and}
 use Rattle.check_names.proofs.Growing.{grown-self}
 use Rattle.check_statements.proofs.Compacts.{compact-stands, compact-room, compact-next, compact-wrong, compact-right}
-use native.Mathlib.Omega.{arith}
 use Rattle.check_statements.proofs.compact_if.Goals as goal
 
-pub statement-j-requires : goal.statement-j-requires
-statement-j-requires c = search (rules, compact-stands)
+pub statement-requires : goal.statement-requires
+statement-requires c = search (rules, compact-stands)
 
 pub overflow_cast-t : goal.overflow_cast-t
 overflow_cast-t c =
@@ -13,11 +15,13 @@ overflow_cast-t c =
 
 pub set_word-requires : goal.set_word-requires
 set_word-requires c =
-    let z = compact-room _ _ _ _ _ _ _ c.requires in let y = compact-next _ _ _ _ _ _ _ c.requires _ _ c.statement-j.ensures _ _
-    c.in-Typed.is in (omega (arith, z, y), omega arith, omega (arith, z), omega (arith, y))
+    let z = compact-room _ _ _ _ _ _ _ c.requires in let y = compact-next _ _ _ _ _ _ _ c.requires _ _ c.statement.ensures _
+    c.in_ok-n.was in (omega (arith, z, y), omega arith, omega (arith, z), omega (arith, y))
 
-pub returns-in-Faulty : goal.returns-in-Faulty
-returns-in-Faulty c = search (rules, compact-wrong)
+pub returns-in_err-n : goal.returns-in_err-n
+returns-in_err-n c =
+    let p = err_from_is_err_and c.from_residual.result c.from_residual.ensures.1 in
+    rw (p.1, p.2) (compact-wrong _ _ _ _ _ _ _ _ _ c.statement.ensures _ c.in_err-n.was, tt)
 
-pub returns-in-Typed : goal.returns-in-Typed
-returns-in-Typed c = search (rules, compact-right, grown-self)
+pub returns : goal.returns
+returns c = (compact-right _ _ _ _ _ _ _ _ _ c.statement.ensures _ c.in_ok-n.was _ c.set_word.ensures _ refl, grown-self _)

@@ -1,12 +1,9 @@
-use Rattle.check_whole.proofs.LentStores.{code-small, values-small, counted, parts_whole, checked-parts}
+use Rattle.check_whole.proofs.LentStores.{stores_small, counted, parts_whole, checked-parts}
 use borrow.Author.Rules.{rules}
 use Rattle.check_whole.proofs.check.Goals as goal
 
 pub returns-then-code-lt-STORE_BYTES : goal.returns-then-code-lt-STORE_BYTES
-returns-then-code-lt-STORE_BYTES c = search (rules, code-small)
-
-pub returns-then-values-lt-STORE_BYTES : goal.returns-then-values-lt-STORE_BYTES
-returns-then-values-lt-STORE_BYTES c = search (rules, values-small)
+returns-then-code-lt-STORE_BYTES c = stores_small _ _ _ c.then-code-lt-STORE_BYTES.either
 
 pub slice_bounds-check_cells-end-2 : goal.slice_bounds-check_cells-end-2
 slice_bounds-check_cells-end-2 c = search (rules, counted)

@@ -1,59 +1,41 @@
 use Rattle.check_whole.proofs.Loaded.{heads-begin}
-use Rattle.check_whole.proofs.NamesWalk.{data-stand, data-found, one_less, routines-stand, routines-found, main-none, main_some, module-none, module-alone}
+use Rattle.check_whole.proofs.NamesWalk.{data-stand, data-found, one_less, routines-stand, routines-found, module-found, module-none, module-alone}
 use Rattle.check_names.proofs.Growing.{grown-upto, back-upto}
-use native.Mathlib.Omega.{arith}
+use Rattle.std.proofs.lemmas.Result.{err_from_is_err_and}
 use borrow.Author.Rules.{rules}
 use Rattle.check_whole.proofs.names_and_types.Goals as goal
 
 pub read-main-requires : goal.read-main-requires
 read-main-requires c = search (rules, heads-begin)
 
-pub module_data-d-requires : goal.module_data-d-requires
-module_data-d-requires c = search (rules, data-stand, module-none)
+pub module_data-requires : goal.module_data-requires
+module_data-requires c = search (rules, data-stand, module-none)
 
 pub overflow_sub-words : goal.overflow_sub-words
-overflow_sub-words c = one_less _ _ _ _ c.requires _ _ _ c.read-main.ensures _ _ _ c.module_data-d.ensures.0
+overflow_sub-words c = one_less _ _ _ _ c.requires _ _ _ c.read-main.ensures _ _ _ c.module_data.ensures.0
 
-pub all_routines-r-requires : goal.all_routines-r-requires
-all_routines-r-requires c = (
-  routines-stand _ _ _ _ c.requires _ _ _ c.read-main.ensures _ _ _ c.module_data-d.ensures.0 _ _ c.in-Upto.is (omega (arith, c.module_data-d.auto.code)),
-  module-alone _ c.of_module.ensures _ (grown-upto _ _ c.module_data-d.ensures.1 _ _ c.in-Upto.is),
+pub all_routines-requires : goal.all_routines-requires
+all_routines-requires c = (
+  routines-stand _ _ _ _ c.requires _ _ _ c.read-main.ensures _ _ _ c.module_data.ensures.0 _ _ c.in_ok-at.was c.module_data.auto.code,
+  module-alone _ c.of_module.ensures _ (grown-upto _ _ c.module_data.ensures.1 _ _ c.in_ok-at.was),
 )
 
-pub shape_of-code-then-main-eq0 : goal.shape_of-code-then-main-eq0
-shape_of-code-then-main-eq0 c =
-    omega (arith, c.all_routines-r.auto.code, c.module_data-d.auto.code, c.read-main.auto.code)
+pub returns-in_err-at : goal.returns-in_err-at
+returns-in_err-at c =
+    let p = err_from_is_err_and c.from_residual.result c.from_residual.ensures.1 in
+    rw (p.1, p.2) (data-found _ _ _ _ c.requires _ _ _ c.read-main.ensures _ _ _ c.module_data.ensures.0 _ c.in_err-at.was
+    c.module_data.auto.code c.module_data.auto.values)
 
-pub shape_of-values-then-main-eq0 : goal.shape_of-values-then-main-eq0
-shape_of-values-then-main-eq0 c =
-    omega (arith, c.all_routines-r.auto.values, c.module_data-d.auto.values, c.read-main.auto.values)
+pub returns-in_err-all : goal.returns-in_err-all
+returns-in_err-all c =
+    let p = err_from_is_err_and c.from_residual-in_err-all.result c.from_residual-in_err-all.ensures.1 in
+    rw (p.1, p.2) (routines-found _ _ _ _ c.requires _ _ _ c.read-main.ensures _ _ _ c.module_data.ensures.0 _ _ c.in_ok-at.was
+    c.module_data.auto.code c.module_data.auto.values _ _ _ c.all_routines.ensures.0
+    c.all_routines.auto.code c.all_routines.auto.values _ c.in_err-all.was)
 
-pub returns-then-main-eq0 : goal.returns-then-main-eq0
-returns-then-main-eq0 c =
-    main-none _ _ _ _ c.requires _ _ _ c.read-main.ensures _ _ _ c.module_data-d.ensures.0 _ _ c.in-Upto.is
-    (omega (arith, c.module_data-d.auto.code)) (omega (arith, c.module_data-d.auto.values)) _ _ _ c.all_routines-r.ensures.0
-    (omega (arith, c.all_routines-r.auto.code)) (omega (arith, c.all_routines-r.auto.values)) _ _ c.in-Upto-r.is c.if-main-eq0.true
-
-pub returns-in-Faulty : goal.returns-in-Faulty
-returns-in-Faulty c = search (rules, data-found)
-
-pub returns-in-Faulty-r : goal.returns-in-Faulty-r
-returns-in-Faulty-r c =
-    routines-found _ _ _ _ c.requires _ _ _ c.read-main.ensures _ _ _ c.module_data-d.ensures.0 _ _ c.in-Upto.is
-    (omega (arith, c.module_data-d.auto.code)) (omega (arith, c.module_data-d.auto.values)) _ _ _ c.all_routines-r.ensures.0
-    (omega (arith, c.all_routines-r.auto.code)) (omega (arith, c.all_routines-r.auto.values)) _ _ c.in-Faulty-r.is
-
-pub shape_of-code-else-main-eq0 : goal.shape_of-code-else-main-eq0
-shape_of-code-else-main-eq0 c =
-    omega (arith, c.all_routines-r.auto.code, c.module_data-d.auto.code, c.read-main.auto.code)
-
-pub shape_of-values-else-main-eq0 : goal.shape_of-values-else-main-eq0
-shape_of-values-else-main-eq0 c =
-    omega (arith, c.all_routines-r.auto.values, c.module_data-d.auto.values, c.read-main.auto.values)
-
-pub returns-else-main-eq0 : goal.returns-else-main-eq0
-returns-else-main-eq0 c =
-    main_some _ _ _ _ c.requires _ _ _ c.read-main.ensures _ _ _ c.module_data-d.ensures.0 _ _ c.in-Upto.is
-    (omega (arith, c.module_data-d.auto.code)) (omega (arith, c.module_data-d.auto.values)) _ _ _ c.all_routines-r.ensures.0
-    (omega (arith, c.all_routines-r.auto.code)) (omega (arith, c.all_routines-r.auto.values)) _ _ c.in-Upto-r.is c.if-main-eq0.false
-    (back-upto _ _ c.all_routines-r.ensures.1 _ _ c.in-Upto-r.is)
+pub returns : goal.returns
+returns c =
+    module-found _ _ _ _ c.requires _ _ _ c.read-main.ensures _ _ _ c.module_data.ensures.0 _ _ c.in_ok-at.was
+    c.module_data.auto.code c.module_data.auto.values _ _ _ c.all_routines.ensures.0
+    c.all_routines.auto.code c.all_routines.auto.values _ _ c.in_ok-all.was
+    (back-upto _ _ c.all_routines.ensures.1 _ _ c.in_ok-all.was)

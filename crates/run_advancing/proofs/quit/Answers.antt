@@ -11,11 +11,11 @@ over-requires c = search (rules, quit-stops)
 pub returns-then-is_lack : goal.returns-then-is_lack
 returns-then-is_lack c = search (rules, quit-ends)
 
-pub leave-t-requires : goal.leave-t-requires
-leave-t-requires c = quit-stands _ _ _ _ _ c.ranges.r c.requires _ c.is_lack.ensures c.if-is_lack.false
+pub leave-requires : goal.leave-requires
+leave-requires c = quit-stands _ _ _ _ _ c.ranges.r c.requires _ c.is_lack.ensures c.if-is_lack.false
 
-pub returns-then-next-eq0 : goal.returns-then-next-eq0
-returns-then-next-eq0 c = search (rules, quit-gone)
+pub returns-in-Some : goal.returns-in-Some
+returns-in-Some c = search (rules, quit-on)
 
-pub returns : goal.returns
-returns c = search (rules, quit-on)
+pub returns-in-None : goal.returns-in-None
+returns-in-None c = search (rules, quit-gone)

@@ -11,14 +11,14 @@ over-requires c = search (rules, take-stops)
 pub returns-then-r-lt-HANDED : goal.returns-then-r-lt-HANDED
 returns-then-r-lt-HANDED c = search (rules, take_ends)
 
-pub arise-t-requires : goal.arise-t-requires
-arise-t-requires c = take-raises _ _ _ _ _ c.ranges.r c.requires c.if-r-lt-HANDED.false
+pub arise-requires : goal.arise-requires
+arise-requires c = take-raises _ _ _ _ _ c.ranges.r c.requires c.if-r-lt-HANDED.false
 
 pub place-requires : goal.place-requires
 place-requires c = search (rules, unmade-place)
 
-pub returns-then-next-eq0 : goal.returns-then-next-eq0
-returns-then-next-eq0 c = search (rules, take-dies)
+pub returns-in-Some : goal.returns-in-Some
+returns-in-Some c = search (rules, take-resumes)
 
-pub returns : goal.returns
-returns c = search (rules, take-resumes)
+pub returns-in-None : goal.returns-in-None
+returns-in-None c = search (rules, take-dies)

@@ -24,7 +24,8 @@ pub loop-base-smaller : goal.loop-base-smaller
 loop-base-smaller c = search (rules, seek-less)
 
 pub loop-base-preserved : goal.loop-base-preserved
-loop-base-preserved c = search (rules, seek-on)
+loop-base-preserved c =
+    seek-on _ _ _ _ _ _ c.loop-base.invariant _ c.handler.ensures c.loop-base-test.ensures c.if-b-eq-FIRST_WINDOW.false _ c.get-s.ensures
 
 pub returns : goal.returns
-returns c = search (rules, nearest-found)
+returns c = nearest-found _ _ _ _ _ _ c.loop-base.invariant _ c.handler.ensures c.loop-base-test.ensures

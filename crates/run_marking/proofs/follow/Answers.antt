@@ -14,14 +14,14 @@ advance-requires c = search (rules, follow-steps)
 pub loop-made-preserved : goal.loop-made-preserved
 loop-made-preserved c = search (rules, follow-on)
 
-pub shape_of-values-then-counts : goal.shape_of-values-then-counts
-shape_of-values-then-counts c = search (rules, turn-long)
+pub shape_of-values-then-halt : goal.shape_of-values-then-halt
+shape_of-values-then-halt c = search (rules, turn-long)
 
-pub shape_of-out-then-counts : goal.shape_of-out-then-counts
-shape_of-out-then-counts c = search (rules, turn-out-long)
+pub shape_of-out-then-halt : goal.shape_of-out-then-halt
+shape_of-out-then-halt c = search (rules, turn-out-long)
 
-pub returns-then-counts : goal.returns-then-counts
-returns-then-counts c = search (rules, follow-counted)
+pub returns-then-halt : goal.returns-then-halt
+returns-then-halt c = search (rules, follow-counted)
 
 pub shape_of-values-in-Over : goal.shape_of-values-in-Over
 shape_of-values-in-Over c = search (rules, turn-long)

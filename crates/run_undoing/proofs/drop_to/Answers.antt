@@ -1,27 +1,24 @@
-use borrow.Author.Rules.{rules}
-use Rattle.run_undoing.proofs.ListsLeft.{stands-routine, search-start, search-sub, search-less, search-routine, search-on, search-none, search-found}
+use mathlib.Core.Path.{sym, ◌∙◌}
+use Rattle.run_undoing.proofs.ListsLeft.{search-start, search-sub, search-less, search-routine, search-on, search-none, search-found}
 use Rattle.run_undoing.proofs.drop_to.Goals as goal
 
-pub undo_list-u-requires : goal.undo_list-u-requires
-undo_list-u-requires c = search (rules, stands-routine)
+pub loop-next-init : goal.loop-next-init
+loop-next-init c = search-start _ _ _
 
-pub loop-u-init : goal.loop-u-init
-loop-u-init c = search (rules, search-start)
+pub undo_list-requires : goal.undo_list-requires
+undo_list-requires c = search-routine _ _ _ _ c.loop-next.invariant c.requires
+
+pub returns-in-Some : goal.returns-in-Some
+returns-in-Some c = search-found _ _ _ _ c.loop-next.invariant _ (sym c.undo_list.ensures ∙ c.in-Some.is)
 
 pub returns-then-b-eq-FIRST_WINDOW : goal.returns-then-b-eq-FIRST_WINDOW
-returns-then-b-eq-FIRST_WINDOW c = search (rules, search-none)
+returns-then-b-eq-FIRST_WINDOW c = search-none _ _ _ _ c.loop-next.invariant (sym c.undo_list.ensures ∙ c.in_default.is) c.if-b-eq-FIRST_WINDOW.true
 
 pub overflow_sub-b : goal.overflow_sub-b
-overflow_sub-b c = search (rules, search-sub)
+overflow_sub-b c = search-sub _ _ _ _ c.loop-next.invariant c.requires c.if-b-eq-FIRST_WINDOW.false
 
-pub undo_list-u-requires-in-loop-u : goal.undo_list-u-requires-in-loop-u
-undo_list-u-requires-in-loop-u c = search (rules, search-routine)
+pub loop-next-smaller : goal.loop-next-smaller
+loop-next-smaller c = search-less _ _ _ _ c.loop-next.invariant c.requires c.if-b-eq-FIRST_WINDOW.false
 
-pub loop-u-smaller : goal.loop-u-smaller
-loop-u-smaller c = search (rules, search-less)
-
-pub loop-u-preserved : goal.loop-u-preserved
-loop-u-preserved c = search (rules, search-on)
-
-pub returns : goal.returns
-returns c = search (rules, search-found)
+pub loop-next-preserved : goal.loop-next-preserved
+loop-next-preserved c = search-on _ _ _ _ c.loop-next.invariant (sym c.undo_list.ensures ∙ c.in_default.is) c.if-b-eq-FIRST_WINDOW.false

@@ -1,8 +1,8 @@
 use Rattle.run_undoing.proofs.ListsLeft.{Searching}
 use Rattle.run_undoing.proofs.drop_to.Given as goal
 
-abbrev pub invariant-loop-u : goal.invariant-loop-u
-invariant-loop-u l = Searching l.code l.values l.base l.b l.u
+abbrev pub invariant-loop-next : goal.invariant-loop-next
+invariant-loop-next l = Searching l.code l.values l.base l.b
 
-abbrev pub decreases-loop-u : goal.decreases-loop-u
-decreases-loop-u l = l.b
+abbrev pub decreases-loop-next : goal.decreases-loop-next
+decreases-loop-next l = l.b

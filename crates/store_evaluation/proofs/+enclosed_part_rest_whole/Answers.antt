@@ -1,4 +1,4 @@
-use mathlib.Core.Path.{◌≡◌, sym, ◌∙◌}
+use mathlib.Core.Path.{sym, ◌∙◌}
 use mathlib.Core.Bool.{true, false}
 use Prim.Native.Nat.{ℕ, ◌+◌, ◌<◌, ◌≤◌}
 use native.Mathlib.Omega.{arith}
@@ -6,13 +6,12 @@ use lib.IntN.{ℤ}
 use mir.Syntax.{w64}
 use mir.Val.{SFits, to_z}
 use borrow.Author.Rules.{rules}
-use borrow.Author.Tests.{not-true, not-false}
 use Rattle.store_numbers.proofs.Whole.{read}
 use Rattle.store_evaluation.proofs.Numbers.{told}
 use Rattle.store_evaluation.proofs.Operators.{failing-is}
 use Rattle.store_evaluation.proofs.Operands.{small-read, small-leaf}
 use Rattle.store_evaluation.proofs.Steps.{encloses-on, encloses, start-enclosed, start-fails, at_room, closes, inside-stands, nests-some, inside-in, inside-room, inside-less, short-leaf, entered, entered-short}
-use Rattle.store_evaluation.proofs.Steps.{Going, Opened, Sided, sided-read, subst₂, evaluated-read, followed-read, followed-first, going-read, stands-in, stands-less, first_leaf, start-leaf, opened-follows, opened-evaluated}
+use Rattle.store_evaluation.proofs.Steps.{Opened, Sided, sided-read, evaluated-read, followed-read, followed-first, going-read, stands-in, stands-less, first_leaf, start-leaf, opened-follows, opened-evaluated}
 use Rattle.store_evaluation.proofs.Steps.{goes-begun, ends, turn_in, turn-room, fused-leaf, side-leaf, turn-less, goes, turn-fails, shorts-told}
 use Rattle.store_evaluation.proofs.Steps.{span-stands, span_less, side-span, right-fails, span-past, skip-known, skip-on, skip-last, last-stands}
 use Rattle.store_evaluation.specs.Parts.{addresses}

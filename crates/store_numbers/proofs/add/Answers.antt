@@ -1,16 +1,17 @@
 use lib.IntN.{◌+ℤ◌}
 use Rattle.paper.specs.Numbers.{add}
-use Rattle.store_numbers.proofs.Outcomes.{op_fits, op-done, op-over}
+use Rattle.std.proofs.lemmas.Result.{err_from_is_err_and}
+use Rattle.store_numbers.proofs.Outcomes.{tells, exact-held, exact-over}
 use borrow.Author.Rules.{rules}
 use Rattle.store_numbers.proofs.add.Goals as goal
 
-pub overflow_add-a : goal.overflow_add-a
-overflow_add-a c = search (rules, op_fits ◌+ℤ◌)
-
-pub returns-then-sum_fits : goal.returns-then-sum_fits
+pub returns-in_err-exact : goal.returns-in_err-exact
 unfolding add
-returns-then-sum_fits c = search (rules, op-done ◌+ℤ◌)
+returns-in_err-exact c =
+    let p = err_from_is_err_and c.from_residual.result c.from_residual.ensures.1 in
+    let t = tells ◌+ℤ◌ _ _ c.ranges.a c.ranges.b _ c.checked_add.ensures in
+    rw (p.1, p.2) (exact-over _ _ _ _ _ (search rules) t c.ok_or.ensures.value c.in_err-exact.was)
 
 pub returns : goal.returns
 unfolding add
-returns c = search (rules, op-over ◌+ℤ◌)
+returns c = search (rules, exact-held)

@@ -1,16 +1,17 @@
 use lib.IntN.{◌-ℤ◌}
 use Rattle.paper.specs.Numbers.{subtract}
-use Rattle.store_numbers.proofs.Outcomes.{op_fits, op-done, op-over}
+use Rattle.std.proofs.lemmas.Result.{err_from_is_err_and}
+use Rattle.store_numbers.proofs.Outcomes.{tells, exact-held, exact-over}
 use borrow.Author.Rules.{rules}
 use Rattle.store_numbers.proofs.subtract.Goals as goal
 
-pub overflow_sub-a : goal.overflow_sub-a
-overflow_sub-a c = search (rules, op_fits ◌-ℤ◌)
-
-pub returns-then-difference_fits : goal.returns-then-difference_fits
+pub returns-in_err-exact : goal.returns-in_err-exact
 unfolding subtract
-returns-then-difference_fits c = search (rules, op-done ◌-ℤ◌)
+returns-in_err-exact c =
+    let p = err_from_is_err_and c.from_residual.result c.from_residual.ensures.1 in
+    let t = tells ◌-ℤ◌ _ _ c.ranges.a c.ranges.b _ c.checked_sub.ensures in
+    rw (p.1, p.2) (exact-over _ _ _ _ _ (search rules) t c.ok_or.ensures.value c.in_err-exact.was)
 
 pub returns : goal.returns
 unfolding subtract
-returns c = search (rules, op-over ◌-ℤ◌)
+returns c = search (rules, exact-held)

@@ -5,8 +5,8 @@ use Rattle.text_words.proofs.refused_at.Goals as goal
 pub returns-in_default : goal.returns-in_default
 returns-in_default c = search (rules, no-refusal)
 
-pub returns-then-after-eq0 : goal.returns-then-after-eq0
-returns-then-after-eq0 c = search (rules, refused-first)
+pub returns-then-flaw-eq0 : goal.returns-then-flaw-eq0
+returns-then-flaw-eq0 c = search (rules, refused-first)
 
 pub returns-then-full : goal.returns-then-full
 returns-then-full c = search (rules, refused-later)

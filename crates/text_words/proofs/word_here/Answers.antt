@@ -11,8 +11,8 @@ refused_at-requires c = search (rules, refuses)
 pub returns-in_default : goal.returns-in_default
 returns-in_default c = search (rules, word-refused)
 
-pub returns-then-words-ge-WORDS_READ : goal.returns-then-words-ge-WORDS_READ
-returns-then-words-ge-WORDS_READ c = search (rules, word-full)
+pub returns-then-full : goal.returns-then-full
+returns-then-full c = search (rules, word-full)
 
 pub overflow_add-result : goal.overflow_add-result
 overflow_add-result c = record { fits = search (rules, word_fits) }

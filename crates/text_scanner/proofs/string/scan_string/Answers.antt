@@ -26,7 +26,7 @@ pub returns-then-is_barred : goal.returns-then-is_barred
 returns-then-is_barred c = search (rules, barred)
 
 pub returns-then-room-eq0 : goal.returns-then-room-eq0
-returns-then-room-eq0 c = no_room _ _ _ _ (joined (goal.at.returns-then-room-eq0 c).Joined-b-eq34) c.if-room-eq0.true
+returns-then-room-eq0 c = rw c.at_start-then-room-eq0.ensures (no_room _ _ _ _ (joined (goal.at.returns-then-room-eq0 c).Joined-b-eq34) c.if-room-eq0.true)
 
 pub overflow_add-n-in-loop-n : goal.overflow_add-n-in-loop-n
 overflow_add-n-in-loop-n c = let at = (joined (goal.at.overflow_add-n-in-loop-n c).Joined-b-eq34).place in search rules

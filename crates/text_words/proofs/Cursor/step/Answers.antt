@@ -5,8 +5,8 @@ use Rattle.text_words.proofs.Cursor.step.Goals as goal
 pub returns-then-text-gt-TEXT : goal.returns-then-text-gt-TEXT
 returns-then-text-gt-TEXT c = search (rules, step-long)
 
-pub returns-in-UpTo : goal.returns-in-UpTo
-returns-in-UpTo c = search (rules, step-here)
+pub returns-in-Ok : goal.returns-in-Ok
+returns-in-Ok c = search (rules, step-here)
 
-pub returns-in-BadByte : goal.returns-in-BadByte
-returns-in-BadByte c = search (rules, step-bad)
+pub returns-in-Err : goal.returns-in-Err
+returns-in-Err c = search (rules, step-bad)
