@@ -75,6 +75,17 @@ module _ (outer : Scope) (first head : ℕ) (s : Scope) (e : s ≡ routine_scope
     pub opened-count : own.names ≡ own.used
     opened-count = opened-names s own opened
 
+-- Its parameters are declared, from the first one's type up to the parenthesis `close`: what all that stands behind them goes by.
+module _ (text code values : List ℕ) (result : Option ValueType) (outer : Scope) (h name : ℕ) (s : Scope) (e : s ≡ routine_scope outer (name + 2) h) (code₁ values₁ : List ℕ) (p : Walked)
+    (x : DeclaresParameters code values code₁ values₁ s.first p) (o : Opens s p) (close : ℕ) (own : Scope) (q : p ≡ Ok (close, own)) (long : length code₁ ≡ length code) where
+  pub own-declared : ScopeStands text code values result h name → ParametersDeclared text code₁ values₁ result outer own h name close
+  own-declared = parameters-declared text code values result h name s (entered-first outer (name + 2) h s e) code₁ values₁ p x close own q long outer
+      (opened-routine outer (name + 2) h s e p o close own q) (opened-count outer (name + 2) h s e p o close own q)
+
+  pub own-scoped : (code' values' : List ℕ) (r : Walked) → ParametersPassed text code₁ values₁ code' values' result outer own h name close r → Scoped text code values code' values' result h name r
+  own-scoped = scope-passed text code values result h name s (entered-first outer (name + 2) h s e) code₁ values₁ p x close own q long outer
+      (opened-routine outer (name + 2) h s e p o close own q) (opened-count outer (name + 2) h s e p o close own q)
+
 -- ---- behind the parameters
 module _ (text code values : List ℕ) (result : Option ValueType) (outer own : Scope) (h name close : ℕ) where
   abbrev O : Type 0
