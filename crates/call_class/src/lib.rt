@@ -16,7 +16,14 @@ use layout::limits;
 use layout::rules::Rule;
 use run_whole::Abort;
 
-// What a class is refused for (classes/specs/Classes.antt).
+// The numbers of what a class alone is refused for (classes/specs/Classes.antt).
+const LENGTHS_DIFFER: u32 = 20;
+
+const MANY_MODULES: u32 = 21;
+
+const SHORT_LIST: u32 = 27;
+
+// What a class is refused for.
 #[derive(Clone, Copy)]
 enum Refusal {
     SmallStore,
@@ -34,9 +41,9 @@ impl Refusal {
         match self {
             Refusal::SmallStore => Rule::SmallStore.number(),
             Refusal::WrongDepth => Rule::WrongDepth.number(),
-            Refusal::LengthsDiffer => 20,
-            Refusal::ManyModules => 21,
-            Refusal::ShortList => 27,
+            Refusal::LengthsDiffer => LENGTHS_DIFFER,
+            Refusal::ManyModules => MANY_MODULES,
+            Refusal::ShortList => SHORT_LIST,
         }
     }
 }
@@ -94,12 +101,14 @@ fn admit(
     Ok(())
 }
 
-// Copies the words of a module from the value store.
+// Copies the words of a module from the value store. Byte by byte: copy_from_slice would want memmove of a C library.
 fn copy_words(values: &[u8], kept: &mut [u8], at: usize)
     requires { Takes values.now kept.old at }
     ensures { kept.new ≡ replaced kept.old at (take data_bytes values.now) data_bytes }
 {
-    kept[at..at + DATA_BYTES].copy_from_slice(&values[..DATA_BYTES]);
+    for j in 0..DATA_BYTES {
+        kept[at + j] = values[j];
+    }
 }
 
 // Module i of a class: checked, and refused or carried out, with its share of the output, its record and its data.
