@@ -362,8 +362,9 @@ impl<'a> Words<'a> {
         }
     }
 
-    // What stands after a list.
+    // What stands after a list. Out of line, as `open`.
     #[tactic(auto, unfolding(crate::specs::Places::list_end), using(crate::proofs::Reading::steps))]
+    #[inline(never)]
     fn list_end(&self, at: usize, closing: u32) -> Result<Part, Breach>
         requires { 0 < closing }
         ensures { result ≡ list_end (sorts_of self.now) closing at }
@@ -417,8 +418,9 @@ impl<'a> Words<'a> {
         self.case_end(n)
     }
 
-    // The compound statement at a place, up to its first list.
+    // The compound statement at a place, up to its first list. Out of line, so that the frame of a list, which nests, has no room for its answers.
     #[tactic(auto, unfolding(crate::specs::Places::opened), using(crate::proofs::Reading::steps))]
+    #[inline(never)]
     fn open(&self, at: usize, deeper: usize) -> Result<Part, Breach>
         requires { at < self.now.count }
         ensures { result ≡ opened (sorts_of self.now) deeper at }
