@@ -19,11 +19,11 @@ use Rattle.layout.specs.declared.rules.Rule.TheVariants.{SmallStore}
 use mathlib.Core.Logic.{◌⊎◌, inl, inr}
 
 -- ---- too small
-code-small : (text code values : List ℕ) → length code < store_bytes → Checks text code values (Err (record { rule = SmallStore; place = 0 })) code values
+pub code-small : (text code values : List ℕ) → length code < store_bytes → Checks text code values (Err (record { rule = SmallStore; place = 0 })) code values
 unfolding Checks
 code-small text code values h = rw (lt-ltb (length code) store_bytes h, Checks) (record { answer = refl; code_same = refl; values_same = refl })
 
-values-small : (text code values : List ℕ) → store_bytes ≤ length code → length values < store_bytes → Checks text code values (Err (record { rule = SmallStore; place = 0 })) code values
+pub values-small : (text code values : List ℕ) → store_bytes ≤ length code → length values < store_bytes → Checks text code values (Err (record { rule = SmallStore; place = 0 })) code values
 unfolding Checks
 values-small text code values g h = rw (le-ltb (length code) store_bytes (omega arith), lt-ltb (length values) store_bytes h, Checks) (record { answer = refl; code_same = refl; values_same = refl })
 

@@ -278,7 +278,7 @@ module _ (text code values : List ℕ) (words : ℕ) (f : Formed text code value
           unfolding SaysRoutines
           walked = routines-say _ u
 
-          main-none : main ≡ None → Walks text code values (Ok (all.used, None)) code₃ values₃
+          pub main-none : main ≡ None → Walks text code values (Ok (all.used, None)) code₃ values₃
           unfolding walked routines-stand Finds
           main-none z = record { finds = any-module (Ok (all.used, None)) code₃ values₃ (record { clear = walked.clear; main-is = foretold.main.missing z }); code-long = code-long₃; values-long = values-long₃ }
 

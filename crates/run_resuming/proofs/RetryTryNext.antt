@@ -55,7 +55,7 @@ module _ (code values : List ℕ) (base i : ℕ) (h : Here code values base i) w
 
 -- ---- the failed step
 -- f was the failed step, or 0 where there was none
-record Was (before after : List ℕ) (base f : ℕ) : Type 0 where
+pub record Was (before after : List ℕ) (base f : ℕ) : Type 0 where
   pub was : f ≡ get_or (cells_of before) (base + failed_cell) 0
   pub words : cells_of after ≡ set (cells_of before) (base + failed_cell) 0
   pub long : length after ≡ length before
@@ -67,7 +67,7 @@ module _ (code values after : List ℕ) (base i f : ℕ) (g : Was values after b
   words_are : cells_of after ≡ set (cells_of values) (window_of h.d + failed_cell) 0
   words_are = g.words ∙ ap (λ (b : ℕ). set (cells_of values) (b + failed_cell) 0) h.base-is
 
-  forgot-keeps : KeepsRun (cells_of values) (cells_of after)
+  pub forgot-keeps : KeepsRun (cells_of values) (cells_of after)
   forgot-keeps c a b = ap (λ (x : List ℕ). get_or x c 0) words_are ∙ get_or-set_other (cells_of values) (window_of h.d + failed_cell) c 0 0 (λ e. omega (arith, h.deep))
 
   in-store : window_of h.d + failed_cell < length (cells_of values)
@@ -82,10 +82,10 @@ module _ (code values after : List ℕ) (base i f : ℕ) (g : Was values after b
   fits-named (none_failed z) d = absurd (d z)
   fits-named (has_failed e) d = e
 
-  failed-named : (f ≡ 0 → ⊥) → is_named (code_here code values base i h).steps f ≡ true
+  pub failed-named : (f ≡ 0 → ⊥) → is_named (code_here code values base i h).steps f ≡ true
   failed-named d = fits-named (subst (FailedFits h.P h.R (cells_of values) h.d) (sym f-is) h.live.top.failed) d
 
-  failed-low : (f ≡ 0 → ⊥) → f < word_limit
+  pub failed-low : (f ≡ 0 → ⊥) → f < word_limit
   failed-low d = (small-name code values base i h f (failed-named d)).1
 
   module _ (rooms : Rooms) (steps : ℕ) (out : List ℕ) where
@@ -95,7 +95,7 @@ module _ (code values after : List ℕ) (base i f : ℕ) (g : Was values after b
     unfolding on_top state_in
     stays t e = ap (λ (c : Call). with_calls (c ∷ waiting h.P h.R (cells_of values) h.d) (state_in h.P h.R (cells_of values) h.d i steps out)) e
 
-    goes-stay : (t : Call → Call) (E : Effect) → E ≡ made (on_top t (state_in h.P h.R (cells_of values) h.d i steps out))
+    pub goes-stay : (t : Call → Call) (E : Effect) → E ≡ made (on_top t (state_in h.P h.R (cells_of values) h.d i steps out))
         → t (call_in h.P h.R (cells_of values) (window_of h.d) i) ≡ call_in h.P h.R (cells_of values) (window_of h.d) i → f ≡ 0
         → Comes h.P h.R (cells_of code) h.offset h.d i steps (cells_of values) (cells_of after) out out E (to_z w64 i)
     goes-stay t E e q z =
@@ -114,7 +114,7 @@ module _ (code values after : List ℕ) (base i f : ℕ) (g : Was values after b
         goes_to h.P h.R (cells_of after) h.d i steps out n
         ∙ ap (on_top (go_to n)) (ap (λ (x : List ℕ). state_in h.P h.R x h.d i steps out) words_are ∙ call-failed h.P h.R (cells_of values) h.d (roomy h) 0 i steps out)
 
-    goes_at : (n : ℕ) (t : Call → Call) (E : Effect) → E ≡ made (on_top t (state_in h.P h.R (cells_of values) h.d i steps out))
+    pub goes_at : (n : ℕ) (t : Call → Call) (E : Effect) → E ≡ made (on_top t (state_in h.P h.R (cells_of values) h.d i steps out))
         → t (call_in h.P h.R (cells_of values) (window_of h.d) i) ≡ go_to n (set_failed none (call_in h.P h.R (cells_of values) (window_of h.d) i))
         → is_named (code_here code values base i h).steps n ≡ true
         → Comes h.P h.R (cells_of code) h.offset h.d i steps (cells_of values) (cells_of after) out out E (to_z w64 n)
@@ -169,7 +169,7 @@ module _ (code values : List ℕ) (base i : ℕ) (h : Here code values base i) w
       effect-here code values base i h rooms steps out s.after try_next refl q.does-is
 
 module _ (code values after : List ℕ) (base i f : ℕ) (g : Was values after base f) where
-  retry-none : Here code values base i → op_at (cells_of code) i ≡ a_retry → f ≡ 0 → Performs code values after base i (to_z w64 i)
+  pub retry-none : Here code values base i → op_at (cells_of code) i ≡ a_retry → f ≡ 0 → Performs code values after base i (to_z w64 i)
   retry-none h₀ o z = record {
     long = g.long;
     kept = forgot-keeps code values after base i f g h₀;
@@ -177,7 +177,7 @@ module _ (code values after : List ℕ) (base i f : ℕ) (g : Was values after b
         (retry-stays code values after base i f g h _ (not-failed code values after base i f g h z)) z;
   }
 
-  retry-again : Here code values base i → op_at (cells_of code) i ≡ a_retry → (f ≡ 0 → ⊥) → Performs code values after base i (to_z w64 f)
+  pub retry-again : Here code values base i → op_at (cells_of code) i ≡ a_retry → (f ≡ 0 → ⊥) → Performs code values after base i (to_z w64 f)
   retry-again h₀ o d = record {
     long = g.long;
     kept = forgot-keeps code values after base i f g h₀;
@@ -185,7 +185,7 @@ module _ (code values after : List ℕ) (base i f : ℕ) (g : Was values after b
         (retry-goes code values after base i f g h _ (has-failed code values after base i f g h d)) (failed-named code values after base i f g h d);
   }
 
-  try-none : Here code values base i → op_at (cells_of code) i ≡ a_try_next → f ≡ 0 → Performs code values after base i (to_z w64 i)
+  pub try-none : Here code values base i → op_at (cells_of code) i ≡ a_try_next → f ≡ 0 → Performs code values after base i (to_z w64 i)
   try-none h₀ o z = record {
     long = g.long;
     kept = forgot-keeps code values after base i f g h₀;
@@ -194,7 +194,7 @@ module _ (code values after : List ℕ) (base i f : ℕ) (g : Was values after b
   }
 
   -- the failed step as what comes after it is asked of
-  failed-step : Here code values base i → (f ≡ 0 → ⊥) → StepAt code f
+  pub failed-step : Here code values base i → (f ≡ 0 → ⊥) → StepAt code f
   failed-step h d =
       let k = here-at code values base i h f (failed-named code values after base i f g h d) in
       let s = step_here code values base f k in
@@ -222,10 +222,10 @@ module _ (code values after : List ℕ) (base i f : ℕ) (g : Was values after b
         let k = here-at code values base i h f (failed-named code values after base i f g h d) in
         subst (λ (j : ℕ). is_named (code_here code values base i h).steps j ≡ true) (sym (a.is (failed-step h d))) (named-after code values base f k)
 
-    next_low : Here code values base i → (f ≡ 0 → ⊥) → n < word_limit
+    pub next_low : Here code values base i → (f ≡ 0 → ⊥) → n < word_limit
     next_low h d = (small-name code values base i h n (next-named h d)).1
 
-    try-again : Here code values base i → op_at (cells_of code) i ≡ a_try_next → (f ≡ 0 → ⊥) → Performs code values after base i (to_z w64 n)
+    pub try-again : Here code values base i → op_at (cells_of code) i ≡ a_try_next → (f ≡ 0 → ⊥) → Performs code values after base i (to_z w64 n)
     try-again h₀ o d = record {
       long = g.long;
       kept = forgot-keeps code values after base i f g h₀;
