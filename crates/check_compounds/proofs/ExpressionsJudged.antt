@@ -18,7 +18,7 @@ use Rattle.layout.specs.Broken.{as_fault}
 use Rattle.layout.specs.declared.rules.Breach.{Breach}
 use Rattle.check_expressions.specs.Known.{Loaded}
 use Rattle.store_writing.specs.Promises.{Kept}
-use Rattle.check_expressions.specs.Answers.{Sound, Judges, Stands, OfType}
+use Rattle.check_expressions.specs.Answers.{Sound, Judges, Stands, Typed}
 use Rattle.check_expressions.proofs.Around.{says_typed, says-faulty}
 use Rattle.faults.specs.First.{First, Inside}
 use Rattle.faults.proofs.First.{◌and◌, widen}
@@ -60,7 +60,7 @@ module _ (text code values : List ℕ) (g : Around text values) (k : Setting) (u
     loaded = loaded;
   }
 
-  module _ (after : List ℕ) (wants : ValueType) (t : DataType) (w : type_in wants ≡ t) (r : Judged) (c : OfType code values after false wants a r) where
+  module _ (after : List ℕ) (wants : ValueType) (t : DataType) (w : type_in wants ≡ t) (r : Judged) (c : Typed code values after false wants a r) where
     judges : Judges g.known.m g.known.n code after a z (record { type = t; faults = of_type g.known.W t g.known.S e; term = term_of g.known.W g.known.S e }) r
     unfolding expression-stands of_type term_of
     judges = c.is expression-stands t w

@@ -32,7 +32,7 @@ use Rattle.std.specs.Prelude.{Ok, Err}
 use Rattle.layout.specs.declared.rules.Breach.{Breach}
 use Rattle.layout.specs.declared.rules.Rule.TheVariants.{TakenName, HidingLoop, TooMany}
 use Rattle.store_writing.specs.Promises.{Kept, Linked}
-use Rattle.check_expressions.specs.Answers.{OfType}
+use Rattle.check_expressions.specs.Answers.{Typed}
 use Rattle.check_expressions.specs.Answers as expressions
 use Rattle.store_writing.proofs.Keeping.{kept_same, kept-wider, kept_on}
 use Rattle.faults.specs.First.{First, Inside}
@@ -72,7 +72,7 @@ module _ (code values : List ℕ) (i : ℕ) (g : Bounds code values i) where
   abbrev ForBound : (after : List ℕ) → Stepped → Type 0
   ForBound after r = Answer (of_type a.known.W a_num a.known.S g.e) code after i g.z (BoundWritten (RawBound (ground_of a) a.known.n (cells_of after) a.known.S g.e i g.z) code after i) r
 
-  module _ (one : List ℕ) (j : Judged) (c : OfType code values one false Num (i + 1) j) where
+  module _ (one : List ℕ) (j : Judged) (c : Typed code values one false Num (i + 1) j) where
     bound-no : (broken : Breach) → j ≡ Err broken → ForBound one (Err broken)
     bound-no broken q =
         found-answer _ _ _ _ _ _ broken
@@ -107,7 +107,7 @@ module _ (code values : List ℕ) (i : ℕ) (g : Bounds code values i) where
             kept = kept_on (kept-wider kept i g.z (omega arith) (omega arith)) (kept-wider l.kept i g.z (omega arith) (omega (arith, forward)));
           })
 
-module _ (code values : List ℕ) (i : ℕ) (one : List ℕ) (j : Judged) (c : OfType code values one false Num (i + 1) j) where
+module _ (code values : List ℕ) (i : ℕ) (one : List ℕ) (j : Judged) (c : Typed code values one false Num (i + 1) j) where
   pub bound-wrong : (broken : Breach) → j ≡ Err broken → Bounded code values one i (Err broken)
   bound-wrong broken q = record { is = λ g. bound-no code values i g one j c broken q }
 

@@ -32,7 +32,7 @@ fn bound(code: &mut [u8], values: &[u8], i: usize) -> Stepped
     requires { Bounds code.old values.now i }
     ensures { Bounded code.old values.now code.new i result }
 {
-    let (_, n) = check_expressions::of_type(code, values, false, ValueType::Num, i + 1)?;
+    let (_, n) = check_expressions::typed(code, values, false, ValueType::Num, i + 1)?;
     set_link(code, i, n);
     Ok(n)
 }

@@ -38,7 +38,7 @@ use Rattle.faults.specs.First.{Every, no-fault, ◌also◌, Inside, First}
 use Rattle.faults.proofs.First.{every_one, widen, ranks, leads-same-if, first-fault, first-rising, first-left, first_alone}
 use Rattle.check_expressions.specs.Judgements.{Judged}
 use Rattle.store_writing.specs.Promises.{Kept}
-use Rattle.check_expressions.specs.Answers.{Sound, of_type, OfType}
+use Rattle.check_expressions.specs.Answers.{Sound, of_type, Typed}
 use Rattle.check_expressions.proofs.FaultsOfParts.{append-none}
 use Rattle.check_expressions.proofs.Order.{Rising, rising-wanted}
 use Rattle.check_expressions.proofs.Around.{says-faulty}
@@ -124,7 +124,7 @@ raises-error k x h = rw h
 pub stores : (code values : List ℕ) (at : ℕ) → Asks code values at → Stores values first_window
 stores code values at a = let l = a.stands.known.table in record { words = omega (arith, l); call = omega (arith, l); number = a.number }
 
-module _ (code values after : List ℕ) (wants : ValueType) (at : ℕ) (j : Judged) (o : OfType code values after true wants at j) where
+module _ (code values after : List ℕ) (wants : ValueType) (at : ℕ) (j : Judged) (o : Typed code values after true wants at j) where
   first_word : (a : Asks code values at) → first a.stands.e ≡ at
   first_word a = spans-first a.stands.e at a.stands.to (stands (sort_in a.stands.known.W) a.stands.d 5 at (a.stands.e, a.stands.to) a.stands.is)
 

@@ -28,7 +28,7 @@ pub fn constant(code: &mut [u8], values: &[u8], wants: ValueType, at: usize) -> 
     requires { Asks code.old values.now at }
     ensures { Values code.old values.now code.new wants at result }
 {
-    let (_, next) = check_expressions::of_type(code, values, true, wants, at)?;
+    let (_, next) = check_expressions::typed(code, values, true, wants, at)?;
     let v = store_evaluation::worth(code, values, layout::cells::FIRST_WINDOW, at, next);
     if v < answers::FIRST_ERROR {
         Ok((v, next))

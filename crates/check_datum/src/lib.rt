@@ -2,7 +2,7 @@
 // Both stores are lent one by one: check_statements says why.
 #![tactic(auto)]
 
-ghost use Rattle.std.specs.Prelude.{◌≡◌, ◌+◌, ◌*◌, ◌<◌, ◌≤◌, length};
+ghost use Rattle.std.specs.Prelude.{◌≡◌, ◌+◌, ◌*◌, ◌<◌, ◌≤◌, length, OnErr};
 ghost use Rattle.std.specs.Int.{w32};
 ghost use Rattle.std.proofs.Common.{of_z};
 ghost use Rattle.paper.specs.Sorts.{open_brace};
@@ -100,7 +100,7 @@ fn array(scope: Scope, code: &mut [u8], values: &mut [u8], site: Site, i: usize)
     Ok((next + 2, filled))
 }
 
-// A scalar whose value stands behind the sign `:=`.
+// A scalar whose value stands behind the sign `:=`. Where the value is refused, no word is given out.
 fn initial(
     scope: Scope,
     code: &mut [u8],
@@ -110,7 +110,7 @@ fn initial(
     i: usize,
 ) -> Walked
     requires { Begins code.old values.old site.own site.limit scope.used i × Near code.old values.old site.own site.limit scope.used i × Initial code.old site.limit scope.used kind i }
-    ensures { DeclaresFree code.old values.old code.new values.new site.own site.limit scope.used i result × Stays scope result }
+    ensures { DeclaresFree code.old values.old code.new values.new site.own site.limit scope.used i result × Stays scope result × OnErr result (values.new ≡ values.old) }
 {
     let wants = check_names::type_named(sort(code, i + 1));
     let (v, next) = check_constants::constant(code, values, wants, i + 4)?;

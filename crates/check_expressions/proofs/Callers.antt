@@ -19,7 +19,7 @@ use Rattle.std.specs.Prelude.{Ok, Err}
 use Rattle.layout.specs.Broken.{as_fault}
 use Rattle.layout.specs.declared.rules.Breach.{Breach}
 use Rattle.check_expressions.specs.Known.{Loaded, Known}
-use Rattle.check_expressions.specs.Answers.{Sound, Stands, Checked, of_type, OfType}
+use Rattle.check_expressions.specs.Answers.{Sound, Stands, Checked, of_type, Typed}
 use Rattle.check_expressions.proofs.Order.{Rising, rising-least, rising-wanted, least-is}
 use Rattle.check_expressions.proofs.Around.{says_typed, says-faulty}
 
@@ -48,7 +48,7 @@ module _ (code values after : List ℕ) (only : Bool) (at : ℕ) (r : Judged) wh
     checked-faulty broken e =
         least-is s.known.W only s.known.S s.d top at s.to s.e broken s.is (says-faulty _ _ _ _ _ _ r broken e (c.is s).says)
 
-  module _ (wants : ValueType) (t : DataType) (w : type_in wants ≡ t) (s : Stands code values disjunctions at) (c : OfType code values after only wants at r) where
+  module _ (wants : ValueType) (t : DataType) (w : type_in wants ≡ t) (s : Stands code values disjunctions at) (c : Typed code values after only wants at r) where
     pub of-type-typed : (type : ValueType) (next : ℕ) → r ≡ Ok (type, next)
         → Sound s.known.m s.known.n (cells_of after) at s.to (of_type t (first s.e) (judge s.known.W only s.known.S s.e)) type next
     of-type-typed type next e = says_typed _ _ _ _ _ _ r type next e (c.is s t w).says

@@ -23,7 +23,8 @@ use Rattle.store_cells.specs.Cells.{cells_of}
 use Rattle.code.specs.Cells.{op_at}
 use Rattle.code.specs.Spans.{term_within}
 use Rattle.layout.specs.Rules.{wrong_type}
-use Rattle.layout.specs.Types.{type_in}
+use Rattle.layout.specs.Types.{type_in, type_number, type_said}
+use Rattle.layout.proofs.Typing.{said, said_as, number-says}
 use Rattle.layout.specs.declared.types.ValueType.{ValueType}
 use Rattle.climb.specs.Rise.{rise, next, lowest}
 use Rattle.climb.specs.Places.{Spans}
@@ -35,7 +36,7 @@ use Rattle.std.specs.Prelude.{Ok, Err}
 use Rattle.layout.specs.Broken.{as_fault}
 use Rattle.layout.specs.declared.rules.Breach.{Breach}
 use Rattle.layout.specs.declared.rules.Rule.TheVariants.{WrongType}
-use Rattle.check_expressions.specs.Answers.{SoundUnder, Refused, SaysUnder, JudgesUnder, StandsUnder, Checked, CheckedUnder, OfType}
+use Rattle.check_expressions.specs.Answers.{SoundUnder, Refused, SaysUnder, JudgesUnder, StandsUnder, Checked, CheckedUnder, OfType, Typed}
 use Rattle.check_expressions.specs.Parts.{asked_of, result_of, Asks, Right, Joined, Begins, Began}
 use Rattle.store_writing.proofs.Keeping.{within-below, kept-wider, kept_on}
 use Rattle.check_expressions.proofs.NoSteps.{low-on}
@@ -372,7 +373,7 @@ module _ (nest : ℕ) (values begun now : List ℕ) (only : Bool) (top at : ℕ)
                   omega (arith, z.1, g)
 
 -- ---- an expression of a type
-module _ (code values after : List ℕ) (only : Bool) (wants : ValueType) (at : ℕ) (r : Judged) (c : Checked code values after only disjunctions at r) where
+module _ (code values after : List ℕ) (only : Bool) (wants at : ℕ) (r : Judged) (c : Checked code values after only disjunctions at r) where
   pub typed-faulty : (broken : Breach) → r ≡ Err broken → OfType code values after only wants at (Err broken)
   unfolding SaysUnder
   typed-faulty broken e = record {
@@ -390,33 +391,34 @@ module _ (code values after : List ℕ) (only : Bool) (wants : ValueType) (at : 
   }
 
   module _ (type : ValueType) (end : ℕ) (e : r ≡ Ok (type, end)) where
-    pub typed_wrong : (type ≡ wants → ⊥) → OfType code values after only wants at (Err (record { rule = WrongType; word = at }))
+    pub typed_wrong : (number : ℕ) → number ≡ type_number type → (number ≡ wants → ⊥) → OfType code values after only wants at (Err (record { rule = WrongType; word = at }))
     unfolding SaysUnder fault
-    typed_wrong d = record {
+    typed_wrong number m d = record {
       is = λ s t w.
           let j = judge s.known.W only s.known.S s.e in
           let q = says_typed _ _ _ _ _ _ r type end e (c.is s).says in
           let start = spans-first s.e at s.to (stands (sort_in s.known.W) s.d disjunctions at (s.e, s.to) s.is) in
+          let v = said wants t w in
           record {
             says = record {
               others = [];
-              faults-are = wanted-wrong t (first s.e) j type wants w q.type-is d q.none ∙ ap (fault wrong_type) start;
+              faults-are = wanted-wrong t (first s.e) j type v.type v.type-is q.type-is (λ h. d (m ∙ ap type_number h ∙ v.number-is)) q.none ∙ ap (fault wrong_type) start;
             };
             kept = (c.is s).kept;
             low = (c.is s).low;
           };
     }
 
-    pub typed-right : type ≡ wants → OfType code values after only wants at (Ok (type, end))
+    pub typed-right : (number : ℕ) → number ≡ type_number type → number ≡ wants → OfType code values after only wants at (Ok (type, end))
     unfolding SaysUnder
-    typed-right y = record {
+    typed-right number m y = record {
       is = λ s t w.
           let j = judge s.known.W only s.known.S s.e in
           let q = says_typed _ _ _ _ _ _ r type end e (c.is s).says in
           record {
             says = record {
-              none = wanted-none t (first s.e) j q.none (sym w ∙ ap type_in (sym y) ∙ q.type-is);
-              type-is = ap type_in y ∙ w;
+              none = wanted-none t (first s.e) j q.none (sym (said_as type wants t w (sym m ∙ y)) ∙ q.type-is);
+              type-is = said_as type wants t w (sym m ∙ y);
               next-is = q.next-is;
               stands = q.stands;
             };
@@ -424,3 +426,8 @@ module _ (code values after : List ℕ) (only : Bool) (wants : ValueType) (at : 
             low = (c.is s).low;
           };
     }
+
+-- the number of a type tells it
+pub typed-by-number : (code values after : List ℕ) (only : Bool) (wants : ValueType) (number at : ℕ) (r : Judged) → number ≡ type_number wants → OfType code values after only number at r
+    → Typed code values after only wants at r
+typed-by-number code values after only wants number at r y c = record { is = λ s t w. c.is s t (ap type_said y ∙ number-says wants ∙ ap some w) }

@@ -2,12 +2,13 @@
 use mathlib.Core.Path.{◌≡◌, sym, ap, ap₂, ◌∙◌}
 use mathlib.Core.Bool.{Bool}
 use mathlib.Core.List.{List, [], ◌∷◌}
+use mathlib.Core.Option.{some}
 use Prim.Native.Nat.{ℕ}
 use Rattle.laws.proofs.Tests.{apart}
 use Rattle.paper.specs.Expressions.{disjunctions}
 use Rattle.paper.specs.Names.{DataType}
 use Rattle.paper.specs.Types.{Fault}
-use Rattle.layout.specs.Types.{type_in}
+use Rattle.layout.specs.Types.{type_in, type_said}
 use Rattle.layout.proofs.Typing.{type-injective}
 use Rattle.layout.specs.declared.types.ValueType.{ValueType}
 use Rattle.paper.specs.Types as types
@@ -17,7 +18,7 @@ use Rattle.layout.specs.Broken.{as_fault}
 use Rattle.layout.specs.declared.rules.Breach.{Breach}
 use Rattle.layout.specs.declared.rules.Rule.{Rule}
 use Rattle.layout.proofs.RuleNumbers.{number-injective}
-use Rattle.check_expressions.specs.Answers.{SaysUnder, Stands, Checked, OfType}
+use Rattle.check_expressions.specs.Answers.{SaysUnder, Stands, Checked, OfType, Typed}
 
 -- breaches that are one fault are one
 pub same_breaches : (a b : Breach) → as_fault a ≡ as_fault b → a ≡ b
@@ -43,5 +44,8 @@ says-unique d m n C D at to j (Err f) (Err g) p q =
 pub expression-unique : (code values c d : List ℕ) (only : Bool) (top at : ℕ) (r s : Judged) → Stands code values top at → Checked code values c only top at r → Checked code values d only top at s → r ≡ s
 expression-unique code values c d only top at r s k p q = says-unique _ _ _ _ _ _ _ _ r s (p.is k).says (q.is k).says
 
-pub of-type-unique : (code values c d : List ℕ) (only : Bool) (wants : ValueType) (at : ℕ) (t : DataType) (r s : Judged) → type_in wants ≡ t → Stands code values disjunctions at → OfType code values c only wants at r → OfType code values d only wants at s → r ≡ s
+pub of-type-unique : (code values c d : List ℕ) (only : Bool) (wants at : ℕ) (t : DataType) (r s : Judged) → type_said wants ≡ some t → Stands code values disjunctions at → OfType code values c only wants at r → OfType code values d only wants at s → r ≡ s
 of-type-unique code values c d only wants at t r s w k p q = says-unique _ _ _ _ _ _ _ _ r s (p.is k t w).says (q.is k t w).says
+
+pub typed-unique : (code values c d : List ℕ) (only : Bool) (wants : ValueType) (at : ℕ) (t : DataType) (r s : Judged) → type_in wants ≡ t → Stands code values disjunctions at → Typed code values c only wants at r → Typed code values d only wants at s → r ≡ s
+typed-unique code values c d only wants at t r s w k p q = says-unique _ _ _ _ _ _ _ _ r s (p.is k t w).says (q.is k t w).says

@@ -10,7 +10,7 @@ use Rattle.paper.specs.Types as types
 use Rattle.store_cells.specs.Cells.{cells_of}
 use Rattle.code.specs.Cells.{op_at}
 use Rattle.code.specs.Spans.{term_within}
-use Rattle.layout.specs.Types.{type_in}
+use Rattle.layout.specs.Types.{type_in, type_said}
 use Rattle.layout.specs.Broken.{as_fault}
 use Rattle.layout.specs.declared.rules.Breach.{Breach}
 use Rattle.store_writing.specs.Promises.{Kept}
@@ -80,6 +80,11 @@ Checked code values after only top at r = CheckedUnder nestings code values afte
 abbrev pub of_type : DataType → (at : ℕ) → types.Judged → types.Judged
 of_type t i j = record { type = t; faults = wanted t i j; term = j.term }
 
-pub record OfType (code values after : List ℕ) (only : Bool) (wants : ValueType) (at : ℕ) (r : Judged) : Type 0 where
+-- the type told by its number
+pub record OfType (code values after : List ℕ) (only : Bool) (wants at : ℕ) (r : Judged) : Type 0 where
+  pub is : (s : Stands code values disjunctions at) (t : DataType) → type_said wants ≡ some t
+      → Judges s.known.m s.known.n code after at s.to (of_type t (first s.e) (judge s.known.W only s.known.S s.e)) r
+
+pub record Typed (code values after : List ℕ) (only : Bool) (wants : ValueType) (at : ℕ) (r : Judged) : Type 0 where
   pub is : (s : Stands code values disjunctions at) (t : DataType) → type_in wants ≡ t
       → Judges s.known.m s.known.n code after at s.to (of_type t (first s.e) (judge s.known.W only s.known.S s.e)) r

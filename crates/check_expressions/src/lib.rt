@@ -10,12 +10,12 @@ ghost use Rattle.code.specs.Cells.{head_at, op_at};
 ghost use Rattle.code.specs.Spans.{a_call_slot};
 ghost use Rattle.layout.specs.Parts.{link_part};
 ghost use Rattle.climb.specs.Rise.{height};
-ghost use Rattle.check_expressions.specs.Answers.{StandsUnder, CheckedUnder, Stands, Checked, OfType};
+ghost use Rattle.check_expressions.specs.Answers.{StandsUnder, CheckedUnder, Stands, Checked, OfType, Typed};
 ghost use Rattle.check_expressions.specs.Parts.{Asks, Numbered, Prefixes, SignType, Gives, Tied, Meant, BreaksAlone, BreaksIndexed, Alone, SmallNumber, Literal, Short, Nested, Signed, Indexed, Right, Joined, Begins, Began};
 
 use layout::limits::NESTINGS;
 use layout::rules::{Breach, Rule};
-use layout::types::ValueType;
+use layout::types::{Type, ValueType};
 use layout::{kinds, levels, ops, parts};
 use store_writing::{set_head, set_word, sort};
 
@@ -341,17 +341,25 @@ pub fn expression(code: &mut [u8], values: &[u8], only: bool, level: u32, at: us
     climb(code, values, only, level, at, NESTINGS)
 }
 
-// An expression of a type.
-pub fn of_type(code: &mut [u8], values: &[u8], only: bool, wants: ValueType, at: usize) -> Judged
+// An expression of the type that a number says; one of another type, or of a number that says none, breaks rule 13.
+pub fn of_type(code: &mut [u8], values: &[u8], only: bool, wants: Type, at: usize) -> Judged
     requires { Stands code.old values.now disjunctions at }
     ensures { OfType code.old values.now code.new only wants at result }
 {
     let (t, end) = expression(code, values, only, levels::DISJUNCTIONS, at)?;
-    if t != wants {
+    if t.number() != wants {
         return Err(Breach {
             rule: Rule::WrongType,
             word: at,
         });
     }
     Ok((t, end))
+}
+
+// An expression of a type.
+pub fn typed(code: &mut [u8], values: &[u8], only: bool, wants: ValueType, at: usize) -> Judged
+    requires { Stands code.old values.now disjunctions at }
+    ensures { Typed code.old values.now code.new only wants at result }
+{
+    of_type(code, values, only, wants.number(), at)
 }

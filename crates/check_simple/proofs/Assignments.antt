@@ -29,7 +29,7 @@ use Rattle.layout.specs.Broken.{as_fault}
 use Rattle.layout.specs.declared.rules.Breach.{Breach}
 use Rattle.check_expressions.specs.Known.{Loaded, InRoom}
 use Rattle.store_writing.specs.Promises.{Kept, Linked}
-use Rattle.check_expressions.specs.Answers.{OfType}
+use Rattle.check_expressions.specs.Answers.{Typed}
 use Rattle.check_expressions.specs.Answers as expressions
 use Rattle.store_writing.proofs.Keeping.{cell-above, head-below, head-above, place-below, kept-wider, kept_on, term-below, term-above}
 use Rattle.check_expressions.proofs.Starts.{loaded-part}
@@ -140,7 +140,7 @@ module _ (code values : List ℕ) (wants : ValueType) (i b : ℕ) (g : ValueSide
   pub value-small : b + 1 < word_limit
   value-small = omega (arith, value_on, value-load.last)
 
-  module _ (mid : List ℕ) (r : Judged) (o : OfType code values mid false wants (b + 1) r) where
+  module _ (mid : List ℕ) (r : Judged) (o : Typed code values mid false wants (b + 1) r) where
     value-long : length mid ≡ length code
     value-long = typed_long g.around.known g.around.sorts (suc nestings) (b + 1) g.e g.to g.value value-load (no-operator _ _ g.ends level-semicolon) (omega arith) mid wants g.type g.wants_is r o
 
@@ -202,7 +202,7 @@ module _ (code values : List ℕ) (wants : ValueType) (i b : ℕ) (g : ValueSide
               kept = kept_on (kept-wider value-kept i (g.to + 1) (omega (arith, g.before)) (omega arith)) (kept-wider x.kept i (g.to + 1) (omega arith) (omega (arith, g.before, value_on)));
             }
 
-module _ (code values : List ℕ) (wants : ValueType) (i b : ℕ) (mid : List ℕ) (r : Judged) (o : OfType code values mid false wants (b + 1) r) where
+module _ (code values : List ℕ) (wants : ValueType) (i b : ℕ) (mid : List ℕ) (r : Judged) (o : Typed code values mid false wants (b + 1) r) where
   pub assigned-faulty : (broken : Breach) → r ≡ Err broken → ValueAssigned code values mid wants i b (Err broken)
   assigned-faulty broken e = record {
     is = λ g. answer-first _ code mid i (g.to + 1) _ (Err broken) broken refl (value-long code values wants i b g mid r o) (value-first code values wants i b g mid r o broken e);

@@ -23,7 +23,7 @@ use Rattle.layout.specs.Broken.{as_fault}
 use Rattle.layout.specs.declared.rules.Breach.{Breach}
 use Rattle.check_expressions.specs.Known.{Loaded, Known}
 use Rattle.store_writing.specs.Promises.{Kept, Linked}
-use Rattle.check_expressions.specs.Answers.{Judges, OfType}
+use Rattle.check_expressions.specs.Answers.{Judges, Typed}
 use Rattle.check_expressions.specs.Answers as expressions
 use Rattle.store_writing.proofs.Keeping.{head-below, head-above, place-below, linked-place, kept-wider, kept_on, term-above}
 use Rattle.check_expressions.proofs.Around.{says_typed, says-faulty}
@@ -112,7 +112,7 @@ module _ {code values : List ℕ} (k : Known values) (sorts : (i : ℕ) → sort
         of-type-first k.W d at e to p (as_fault broken) s.others t k.S (sym q ∙ s.faults-are)
 
   -- the same of one that has to be of a type
-  module _ (after : List ℕ) (wants : ValueType) (t : DataType) (w : type_in wants ≡ t) (r : Judged) (o : OfType code values after false wants at r) where
+  module _ (after : List ℕ) (wants : ValueType) (t : DataType) (w : type_in wants ≡ t) (r : Judged) (o : Typed code values after false wants at r) where
     typed-faults : (expressions.of_type t (first e) (judge k.W false k.S e)).faults ≡ of_type k.W t k.S e
     unfolding of_type
     typed-faults = refl
@@ -160,7 +160,7 @@ module _ (code values : List ℕ) (from i : ℕ) (g : Values code values from i)
   values-grow : from < g.to
   values-grow = grows g.around.known.W (suc nestings) from g.e g.to g.value
 
-  module _ (mid : List ℕ) (wants : ValueType) (t : DataType) (w : type_in wants ≡ t) (r : Judged) (o : OfType code values mid false wants from r) where
+  module _ (mid : List ℕ) (wants : ValueType) (t : DataType) (w : type_in wants ≡ t) (r : Judged) (o : Typed code values mid false wants from r) where
     values-told : (b : ValueType) (end : ℕ) → r ≡ Ok (b, end) → Told g.around.known (of_type g.around.known.W t g.around.known.S g.e) code mid g.e from g.to end
     values-told = typed-told g.around.known g.around.sorts (suc nestings) from g.e g.to g.value g.loaded (no-operator _ _ g.ends level-semicolon) (omega arith) mid wants t w r o
 
@@ -186,7 +186,7 @@ raw-term-after a mid after e at to x y k h t = record {
   quiet = quiet-above k at to h t.quiet;
 }
 
-pub valued-faulty : (code values after : List ℕ) (op : ℕ) (wants : ValueType) (from i : ℕ) (r : Judged) → OfType code values after false wants from r → (broken : Breach) → r ≡ Err broken
+pub valued-faulty : (code values after : List ℕ) (op : ℕ) (wants : ValueType) (from i : ℕ) (r : Judged) → Typed code values after false wants from r → (broken : Breach) → r ≡ Err broken
     → Valued code values after op wants from i (Err broken)
 valued-faulty code values after op wants from i r o broken e = record {
   is = λ g u w.
@@ -196,7 +196,7 @@ valued-faulty code values after op wants from i r o broken e = record {
       (typed-first g.around.known g.around.sorts (suc nestings) from g.e g.to g.value g.loaded no (omega arith) after wants u w r o broken e);
 }
 
-pub valued-typed : (code values mid after : List ℕ) (op : ℕ) (wants : ValueType) (from i : ℕ) (r : Judged) → OfType code values mid false wants from r → (b : ValueType) (end : ℕ) → r ≡ Ok (b, end)
+pub valued-typed : (code values mid after : List ℕ) (op : ℕ) (wants : ValueType) (from i : ℕ) (r : Judged) → Typed code values mid false wants from r → (b : ValueType) (end : ℕ) → r ≡ Ok (b, end)
     → Linked mid after i op end (end + 1) → Valued code values after op wants from i (Ok (end + 1))
 valued-typed code values mid after op wants from i r o b end e l = record {
   is = λ g u w.

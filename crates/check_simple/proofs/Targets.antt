@@ -34,7 +34,7 @@ use Rattle.layout.specs.Broken.{as_fault, number_of}
 use Rattle.layout.specs.declared.rules.Breach.{Breach}
 use Rattle.check_expressions.specs.Known.{Loaded, InRoom, Within}
 use Rattle.store_writing.specs.Promises.{Kept, Linked}
-use Rattle.check_expressions.specs.Answers.{OfType}
+use Rattle.check_expressions.specs.Answers.{Typed}
 use Rattle.check_expressions.specs.Answers as answers
 use Rattle.store_writing.proofs.Keeping.{head-below, head-above, place-below, kept-wider, kept_on, term-above}
 use Rattle.check_expressions.proofs.FaultsOfParts.{judged-faults, judged-term, judged-type, element-is}
@@ -262,7 +262,7 @@ module _ (code values : List ℕ) (cell at : ℕ) (g : Elements code values cell
   pub element-small : at + 2 < word_limit
   element-small = omega (arith, index_on, index-load.last)
 
-  module _ (mid : List ℕ) (r : Judged) (o : OfType code values mid false Num (at + 2) r) where
+  module _ (mid : List ℕ) (r : Judged) (o : Typed code values mid false Num (at + 2) r) where
     index-long : length mid ≡ length code
     index-long = typed_long g.targets.known g.targets.sorts nestings (at + 2) braces.e braces.n index_at index-load index-no (omega arith) mid Num a_num refl r o
 
@@ -306,7 +306,7 @@ module _ (code values : List ℕ) (cell at : ℕ) (g : Elements code values cell
         ∙ element-is (meaning g.targets.known.S (spelled g.targets.known.W at)) at braces.e (judge g.targets.known.W false g.targets.known.S braces.e)
         (type_with (bool_in cell), ref_with (own_in cell) (first_in (value_in cell)), size_in (value_in cell)) array-means
 
-    module _ (mid : List ℕ) (r : Judged) (o : OfType code values mid false Num (at + 2) r) where
+    module _ (mid : List ℕ) (r : Judged) (o : Typed code values mid false Num (at + 2) r) where
       index-first : (broken : Breach) → r ≡ Err broken → First (as_fault broken) (judge_target g.targets.known.W g.targets.known.S g.targets.t).faults
       index-first broken e =
           subst (First (as_fault broken)) (sym (ap (λ (x : types.Judged). x.faults) array-judged ∙ judged-faults _ _ _))
@@ -387,7 +387,7 @@ module _ (code values : List ℕ) (cell at : ℕ) where
           (array-wrong code values cell at g rule (λ e. d (ek ∙ e)) (subst (λ (x : ℕ). WrongName x rule) ek w));
     }
 
-    module _ (is-array : k ≡ an_array) (mid : List ℕ) (r : Judged) (o : OfType code values mid false Num (at + 2) r) where
+    module _ (is-array : k ≡ an_array) (mid : List ℕ) (r : Judged) (o : Typed code values mid false Num (at + 2) r) where
       of-kind : kind_in cell ≡ an_array
       of-kind = sym ek ∙ is-array
 

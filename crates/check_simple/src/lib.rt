@@ -87,7 +87,7 @@ fn element_target(code: &mut [u8], values: &[u8], m: u32, at: usize) -> Judged
             word: at,
         });
     }
-    let (_, end) = check_expressions::of_type(code, values, false, ValueType::Num, at + 2)?;
+    let (_, end) = check_expressions::typed(code, values, false, ValueType::Num, at + 2)?;
     set_head(
         code,
         at,
@@ -281,7 +281,7 @@ fn assign_value(code: &mut [u8], values: &[u8], wants: ValueType, i: usize, b: u
     requires { ValueSide code.old values.now wants i b }
     ensures { ValueAssigned code.old values.now code.new wants i b result }
 {
-    let (_, end) = check_expressions::of_type(code, values, false, wants, b + 1)?;
+    let (_, end) = check_expressions::typed(code, values, false, wants, b + 1)?;
     set_link(code, b, end);
     set_link(code, i, end + 1);
     Ok(end + 1)
@@ -369,7 +369,7 @@ fn with_value(
     requires { Values code.old values.now from i × (op < value_part) }
     ensures { Valued code.old values.now code.new op wants from i result }
 {
-    let (_, end) = check_expressions::of_type(code, values, false, wants, from)?;
+    let (_, end) = check_expressions::typed(code, values, false, wants, from)?;
     set_word(code, i, op, end as u32, end + 1);
     Ok(end + 1)
 }

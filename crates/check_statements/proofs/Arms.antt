@@ -26,7 +26,7 @@ use Rattle.grammar.proofs.Inversions.{FirstArm, arms-first}
 use Rattle.grammar.proofs.Places.{list-grows, arms-grow, else-grows}
 use Rattle.store_writing.specs.Promises.{Kept, Linked}
 use Rattle.store_writing.proofs.Keeping.{place-below, linked-place}
-use Rattle.check_expressions.specs.Answers.{OfType}
+use Rattle.check_expressions.specs.Answers.{Typed}
 use Rattle.check_expressions.specs.Answers as expressions
 use Rattle.faults.specs.First.{First, Inside}
 use Rattle.faults.proofs.First.{widen, every-none, first-before}
@@ -503,9 +503,9 @@ module _ (text code values : List ℕ) (k : Setting) (used i first : ℕ) (now v
               unfolding arm_faults
               in-arm = ap (λ (r2 : Arms). arm_faults a.known.W a.K a.M r2 a.known.S (n + fors_in_list x.b)) f.is
 
-              module _ (three : List ℕ) (j : Judged) (o2 : OfType two values'' three false Bool (e + 1) j) where
-                o3 : OfType two values three false Bool (m + 1) j
-                o3 = of-type-as done.same (subst (λ (v : ℕ). OfType two values'' three false Bool (v + 1) j) done.next-is o2)
+              module _ (three : List ℕ) (j : Judged) (o2 : Typed two values'' three false Bool (e + 1) j) where
+                o3 : Typed two values three false Bool (m + 1) j
+                o3 = of-type-as done.same (subst (λ (v : ℕ). Typed two values'' three false Bool (v + 1) j) done.next-is o2)
 
                 condition-wrong : (broken : Breach) → j ≡ Err broken → ForIf three values'' (Err broken)
                 unfolding total else-faults
@@ -608,7 +608,7 @@ module _ (text code values : List ℕ) (k : Setting) (used i first : ℕ) (now v
         pub arms-finished : (z : ℕ) (v : Scope) → r2 ≡ Ok (z, v) → (four : List ℕ) → Linked three four i (op_at (cells_of three) i) (value_at (cells_of three) i) z → Thened text code values four values''' k used i first (Ok (z, v))
         arms-finished z v q2 four l2 = record { is = λ g. finished g one values'' r l e u q two ended s es f three values''' r2 el z v q2 four l2 }
 
-      module _ (h : s ≡ ELSEIF) (three : List ℕ) (j : Judged) (o2 : OfType two values'' three false Bool (e + 1) j) where
+      module _ (h : s ≡ ELSEIF) (three : List ℕ) (j : Judged) (o2 : Typed two values'' three false Bool (e + 1) j) where
         pub arm-wrong : (broken : Breach) → j ≡ Err broken → Thened text code values three values'' k used i first (Err broken)
         arm-wrong broken q2 = record { is = λ g. condition-wrong g one values'' r l e u q two ended s es h three j o2 broken q2 }
 

@@ -21,7 +21,7 @@ use Rattle.grammar.proofs.Inversions.{CompactIf, FullIf, IsIf, statement-if, sim
 use Rattle.grammar.proofs.Places.{simple-grows, else-grows}
 use Rattle.store_writing.specs.Promises.{Kept}
 use Rattle.store_writing.proofs.Keeping.{place-below}
-use Rattle.check_expressions.specs.Answers.{OfType}
+use Rattle.check_expressions.specs.Answers.{Typed}
 use Rattle.check_expressions.specs.Answers as expressions
 use Rattle.faults.specs.First.{Inside}
 use Rattle.faults.proofs.First.{first-before}
@@ -107,7 +107,7 @@ module _ (text code values : List ℕ) (k : Setting) (used i : ℕ) (g : Begins 
   condition-inside : Inside (i + 1) w.n (of_type a.known.W a_bool a.known.S w.e)
   condition-inside = of-type-inside a.known.W _ _ _ _ w.condition a_bool a.known.S
 
-  module _ (one : List ℕ) (j : Judged) (c : OfType code values one false Bool (i + 1) j) where
+  module _ (one : List ℕ) (j : Judged) (c : Typed code values one false Bool (i + 1) j) where
     wrong : (broken : Breach) → j ≡ Err broken → StatementAnswer g.stands one values (Err broken)
     unfolding statement_faults fors_in
     wrong broken q =
@@ -238,7 +238,7 @@ module _ (text code values : List ℕ) (k : Setting) (used i : ℕ) (g : Begins 
               ((subst (λ (y : ℕ). Thened text one values two values' k used i y r) at-is x).is thens))
 
 -- ---- for whatever the statement is
-module _ (text code values : List ℕ) (k : Setting) (used i : ℕ) (one : List ℕ) (j : Judged) (c : OfType code values one false Bool (i + 1) j) where
+module _ (text code values : List ℕ) (k : Setting) (used i : ℕ) (one : List ℕ) (j : Judged) (c : Typed code values one false Bool (i + 1) j) where
   pub if-wrong : (broken : Breach) → j ≡ Err broken → Begun IF text code values one values k used i (Err broken)
   if-wrong broken q = record { is = λ g. wrong text code values k used i g one j c broken q }
 

@@ -9,7 +9,7 @@ use Rattle.paper.specs.Names.{meaning}
 use Rattle.paper.specs.Types.{Fault}
 use Rattle.check_names.specs.Meanings.{Means}
 use Rattle.check_expressions.specs.Known.{Known}
-use Rattle.check_expressions.specs.Answers.{OfType}
+use Rattle.check_expressions.specs.Answers.{Typed}
 use Rattle.check_expressions.specs.Answers as expressions
 use Rattle.check_constants.specs.Answers.{Fine}
 use Rattle.check_around.specs.declared.Setting.{Setting}
@@ -82,7 +82,7 @@ module _ {values values' : List ℕ} (s : SameValues values values') where
   abbrev pub expression-as : {code : List ℕ} {top at : ℕ} → expressions.Stands code values top at → expressions.Stands code values' top at
   expression-as g = record { known = known-as g.known; d = g.d; e = g.e; to = g.to; tops = g.tops; deep = g.deep; is = g.is; ends = g.ends; loaded = g.loaded }
 
-  pub of-type-as : {code after : List ℕ} {only : Bool} {wants : ValueType} {at : ℕ} {r : Judged} → OfType code values' after only wants at r → OfType code values after only wants at r
+  pub of-type-as : {code after : List ℕ} {only : Bool} {wants : ValueType} {at : ℕ} {r : Judged} → Typed code values' after only wants at r → Typed code values after only wants at r
   of-type-as x = record { is = λ g t w. x.is (expression-as g) t w }
 
   pub answer-as : (fs : List Fault) (before after values'' : List ℕ) (at to count : ℕ) (holds : Type 0) (r : Walked) → Answer fs before after values' values'' at to count holds r → Answer fs before after values values'' at to count holds r

@@ -20,7 +20,7 @@ use Rattle.grammar.proofs.Inversions.{cases_none, default_none, IsTest, statemen
 use Rattle.grammar.proofs.Places.{cases-grow, default-grows}
 use Rattle.store_writing.specs.Promises.{Kept, Linked}
 use Rattle.store_writing.proofs.Keeping.{place-below}
-use Rattle.check_expressions.specs.Answers.{OfType}
+use Rattle.check_expressions.specs.Answers.{Typed}
 use Rattle.check_expressions.specs.Answers as expressions
 use Rattle.faults.specs.First.{First}
 use Rattle.faults.proofs.First.{first-before}
@@ -81,7 +81,7 @@ module _ (text code values : List ℕ) (k : Setting) (used i : ℕ) (g : Begins 
   ForStatement after values' r t =
       Answer (statement_faults a.known.W a.K a.M t a.known.S used) code after values values' i s.to (used + fors_in t) (RawStatement (ground_of a) a.known.n (cells_of after) t a.known.S used i s.to) r
 
-  module _ (one : List ℕ) (j : Judged) (c : OfType code values one false Num (i + 1) j) where
+  module _ (one : List ℕ) (j : Judged) (c : Typed code values one false Num (i + 1) j) where
     wrong : (broken : Breach) → j ≡ Err broken → StatementAnswer g.stands one values (Err broken)
     unfolding statement_faults fors_in
     wrong broken q =
@@ -224,7 +224,7 @@ module _ (text code values : List ℕ) (k : Setting) (used i : ℕ) (g : Begins 
                 (l.kept.long ∙ inner.long ∙ kept.long))
 
 -- ---- for whatever the statement is
-module _ (text code values : List ℕ) (k : Setting) (used i : ℕ) (one : List ℕ) (j : Judged) (c : OfType code values one false Num (i + 1) j) where
+module _ (text code values : List ℕ) (k : Setting) (used i : ℕ) (one : List ℕ) (j : Judged) (c : Typed code values one false Num (i + 1) j) where
   pub test-wrong : (broken : Breach) → j ≡ Err broken → Begun TEST text code values one values k used i (Err broken)
   test-wrong broken q = record { is = λ g. wrong text code values k used i g one j c broken q }
 

@@ -21,7 +21,7 @@ use Rattle.grammar.proofs.Inversions.{IsWhile, statement-while}
 use Rattle.grammar.proofs.Places.{list-grows}
 use Rattle.store_writing.specs.Promises.{Kept}
 use Rattle.store_writing.proofs.Keeping.{place-below, linked-place}
-use Rattle.check_expressions.specs.Answers.{OfType}
+use Rattle.check_expressions.specs.Answers.{Typed}
 use Rattle.check_expressions.specs.Answers as expressions
 use Rattle.faults.specs.First.{Inside}
 use Rattle.faults.proofs.First.{first-before, first-after, nothing-in-both}
@@ -82,7 +82,7 @@ module _ (text code values : List ℕ) (k : Setting) (used i : ℕ) (g : Begins 
   body-inside : Inside (w.do_at + 1) w.end (list_faults a.known.W a.K a.M w.body a.known.S used)
   body-inside = list_inside a.known.W a.K a.M w.list a.known.S used
 
-  module _ (one : List ℕ) (j : Judged) (c : OfType code values one false Bool (i + 1) j) where
+  module _ (one : List ℕ) (j : Judged) (c : Typed code values one false Bool (i + 1) j) where
     wrong : (broken : Breach) → j ≡ Err broken → StatementAnswer g.stands one values (Err broken)
     unfolding statement_faults
     wrong broken q =
@@ -214,7 +214,7 @@ module _ (text code values : List ℕ) (k : Setting) (used i : ℕ) (g : Begins 
                 (y.head.kept.long ∙ y.again.kept.long ∙ y.opens.kept.long ∙ body.long ∙ kept.long))
 
 -- ---- for whatever the statement is
-module _ (text code values : List ℕ) (k : Setting) (used i : ℕ) (one : List ℕ) (j : Judged) (c : OfType code values one false Bool (i + 1) j) where
+module _ (text code values : List ℕ) (k : Setting) (used i : ℕ) (one : List ℕ) (j : Judged) (c : Typed code values one false Bool (i + 1) j) where
   pub while-wrong : (broken : Breach) → j ≡ Err broken → Begun WHILE text code values one values k used i (Err broken)
   while-wrong broken q = record { is = λ g. wrong text code values k used i g one j c broken q }
 

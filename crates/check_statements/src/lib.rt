@@ -30,7 +30,7 @@ fn while_statement(
     requires { Begins WHILE text.now code.old values.old k scope.used i × EachHasWord scope }
     ensures { Begun WHILE text.now code.old values.old code.new values.new k scope.used i result × Stays scope result }
 {
-    let (_, d) = check_expressions::of_type(code, values, false, ValueType::Bool, i + 1)?;
+    let (_, d) = check_expressions::typed(code, values, false, ValueType::Bool, i + 1)?;
     let (e, n) = list(text, code, values, k, scope, d + 1)?;
     check_compounds::while_end(code, i, d, e);
     Ok((e + 1, n))
@@ -129,7 +129,7 @@ fn full_if(
             set_link(code, i, z);
             return Ok((z, v));
         }
-        let (_, m) = check_expressions::of_type(code, values, false, ValueType::Bool, e + 1)?;
+        let (_, m) = check_expressions::typed(code, values, false, ValueType::Bool, e + 1)?;
         op = ops::ELSE_IF;
         c = e;
         t = m;
@@ -149,7 +149,7 @@ fn if_statement(
     requires { Begins IF text.now code.old values.old k scope.used i × EachHasWord scope }
     ensures { Begun IF text.now code.old values.old code.new values.new k scope.used i result × Stays scope result }
 {
-    let (_, t) = check_expressions::of_type(code, values, false, ValueType::Bool, i + 1)?;
+    let (_, t) = check_expressions::typed(code, values, false, ValueType::Bool, i + 1)?;
     if sort(code, t) != text_sorts::THEN {
         return compact_if(text, code, values, k, scope, i, t);
     }
@@ -223,7 +223,7 @@ fn test_statement(
     requires { Begins TEST text.now code.old values.old k scope.used i × EachHasWord scope }
     ensures { Begun TEST text.now code.old values.old code.new values.new k scope.used i result × Stays scope result }
 {
-    let (_, c) = check_expressions::of_type(code, values, false, ValueType::Num, i + 1)?;
+    let (_, c) = check_expressions::typed(code, values, false, ValueType::Num, i + 1)?;
     let (z, n) = cases(text, code, values, k, scope, c)?;
     set_word(code, i, ops::TEST, c as u32, z);
     Ok((z, n))

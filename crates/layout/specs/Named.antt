@@ -1,7 +1,8 @@
 -- The constants of the code, in its order, by the names that the definitions give them.
 use Rattle.std.specs.Prelude.{List, [], ◌∷◌, map, ℕ, ◌*◌, ℤ, pos}
 use Rattle.layout.specs.Rules.{small_store, wrong_depth, long_text, bad_byte, malformed, too_large, many_words, no_form, deep_nesting, taken_name, unknown_name, wrong_kind, wrong_type, wrong_count, no_value, too_many, barred, no_main}
-use Rattle.layout.specs.Rules.{hiding_loop}
+use Rattle.layout.specs.Rules.{hiding_loop, main_returned, exited, unhandled, fell_off, steps_spent, beyond_depth, no_input, no_room, aborted, undo_spent}
+use Rattle.layout.specs.Types.{no_type, num_type, bool_type}
 use Rattle.layout.specs.Answers.{entered, left, ended, lacked, handed, first_error}
 use Rattle.layout.specs.Kinds.{a_variable, an_array, a_constant, a_loop, a_routine, an_errno, an_error_number}
 use Rattle.layout.specs.Parts.{value_part, link_part, size_part, characters_part, loop_part, spelled_part, right_part, right_ways, half_part, kind_part, type_part}
@@ -34,9 +35,16 @@ abbrev pub rules : List ℕ
 rules =
     small_store ∷ wrong_depth ∷ long_text ∷ bad_byte ∷ malformed ∷ too_large ∷ many_words ∷ no_form ∷ deep_nesting ∷ taken_name ∷ unknown_name ∷ wrong_kind ∷ wrong_type ∷ wrong_count ∷ no_value ∷ too_many ∷ barred ∷ no_main ∷ hiding_loop ∷ []
 
+abbrev pub endings : List ℕ
+endings =
+    main_returned ∷ exited ∷ unhandled ∷ fell_off ∷ steps_spent ∷ beyond_depth ∷ no_input ∷ no_room ∷ aborted ∷ undo_spent ∷ []
+
 -- four bytes a cell
 abbrev pub store_bytes : ℕ
 store_bytes = 4 * store_words
+
+abbrev pub types : List ℕ
+types = no_type ∷ num_type ∷ bool_type ∷ []
 
 abbrev pub parts : List ℕ
 parts = value_part ∷ link_part ∷ size_part ∷ characters_part ∷ loop_part ∷ spelled_part ∷ right_part ∷ right_ways ∷ bias ∷ kind_part ∷ type_part ∷ []

@@ -4,6 +4,7 @@ use Rattle.std.specs.Prelude.{Ok, Err}
 use mathlib.Core.Path.{◌≡◌, refl, sym, ap, ap₂, subst, ◌∙◌}
 use mathlib.Core.Bool.{Bool}
 use mathlib.Core.List.{List}
+use mathlib.Core.Option.{some}
 use Prim.Native.Nat.{ℕ, ◌+◌, ◌*◌}
 use lib.ListN.{length}
 use lib.IntN.{ℤ, pos, nat_abs, ◌+ℤ◌, -ℤ-+ℤ_cancel}
@@ -21,7 +22,7 @@ use Rattle.code.specs.Cells.{link_at}
 use Rattle.code.specs.Steps.{numbered}
 use Rattle.code.specs.Spans.{bias, term_in}
 use Rattle.layout.specs.Broken.{as_fault}
-use Rattle.layout.specs.Types.{type_in}
+use Rattle.layout.specs.Types.{type_in, type_said}
 use Rattle.layout.specs.declared.types.ValueType.{ValueType}
 use Rattle.faults.specs.Added.{data_faults, parameter_faults}
 use Rattle.faults.specs.Left.{own_faults}
@@ -29,8 +30,8 @@ use Rattle.faults.proofs.Routines.{nothing-in-own}
 use Rattle.check_heads.specs.Trees.{heads_for}
 use Rattle.check_sites.specs.Sites.{the_module, a_routine, filling}
 use Rattle.check_expressions.specs.Judgements.{Judged}
-use Rattle.check_expressions.specs.Answers.{Sound, SaysUnder, Judges, Stands, Checked, OfType}
-use Rattle.check_expressions.proofs.Unique.{expression-unique, of-type-unique}
+use Rattle.check_expressions.specs.Answers.{Sound, SaysUnder, Judges, Stands, Checked, OfType, Typed}
+use Rattle.check_expressions.proofs.Unique.{expression-unique, of-type-unique, typed-unique}
 use Rattle.check_constants.specs.Sizing.{Valued, Sized}
 use Rattle.check_constants.specs.Answers.{HeldAs, Asks, Values, SaysSize, Sizes}
 use Rattle.check_constants.specs.Answers as constants
@@ -77,9 +78,13 @@ module _ (code values c d : List ℕ) (only : Bool) (at : ℕ) (r s : Judged) wh
   pub expression-same : (top : ℕ) (k : Stands code values top at) → Checked code values c only top at r → Checked code values d only top at s → SameExpression k c d r s
   expression-same top k p q = same-expression k _ (p.is k) (q.is k) (expression-unique code values c d only top at r s k p q)
 
-  pub of-type-same : (wants : ValueType) (k : Stands code values disjunctions at) (t : DataType) → type_in wants ≡ t → OfType code values c only wants at r → OfType code values d only wants at s
+  pub of-type-same : (wants : ℕ) (k : Stands code values disjunctions at) (t : DataType) → type_said wants ≡ some t → OfType code values c only wants at r → OfType code values d only wants at s
       → SameExpression k c d r s
   of-type-same wants k t w p q = same-expression k _ (p.is k t w) (q.is k t w) (of-type-unique code values c d only wants at t r s w k p q)
+
+  pub typed-same : (wants : ValueType) (k : Stands code values disjunctions at) (t : DataType) → type_in wants ≡ t → Typed code values c only wants at r → Typed code values d only wants at s
+      → SameExpression k c d r s
+  typed-same wants k t w p q = same-expression k _ (p.is k t w) (q.is k t w) (typed-unique code values c d only wants at t r s w k p q)
 
 -- ---- constants
 pub held-unique : (v : ℤ) (r s : ℕ) → HeldAs v r → HeldAs v s → r ≡ s

@@ -7,8 +7,8 @@ use Rattle.check_compounds.proofs.bound.Goals as goal
 pub overflow_add-i : goal.overflow_add-i
 overflow_add-i c = omega (arith, bound-room _ _ _ c.requires)
 
-pub of_type-requires : goal.of_type-requires
-of_type-requires c = search (rules, bound-stands)
+pub typed-requires : goal.typed-requires
+typed-requires c = search (rules, bound-stands)
 
 pub returns-in_err-n : goal.returns-in_err-n
 returns-in_err-n c =
@@ -18,7 +18,7 @@ returns-in_err-n c =
 
 pub set_link-requires : goal.set_link-requires
 set_link-requires c =
-    bound-links _ _ _ c.requires _ _ c.of_type.ensures _ _ c.in_ok-n.was
+    bound-links _ _ _ c.requires _ _ c.typed.ensures _ _ c.in_ok-n.was
 
 pub returns : goal.returns
-returns c = bound-right _ _ _ _ _ c.of_type.ensures _ _ c.in_ok-n.was _ c.set_link.ensures
+returns c = bound-right _ _ _ _ _ c.typed.ensures _ _ c.in_ok-n.was _ c.set_link.ensures

@@ -1,4 +1,5 @@
 use borrow.Author.Rules.{rules}
+use mathlib.Core.Path.{refl}
 use native.Mathlib.Omega.{arith}
 use Rattle.std.proofs.lemmas.Result.{err_from_is_err_and}
 use Rattle.check_datum.proofs.Scalars.{initial-asks, initial-room, initial-low, initial-fit, initial-faulty, initial-goes, fit-read, fit-adds, made-used, made-grown}
@@ -10,7 +11,7 @@ constant-requires c = search (rules, initial-asks)
 pub returns-in_err-v : goal.returns-in_err-v
 returns-in_err-v c =
     let p = err_from_is_err_and c.from_residual.result c.from_residual.ensures.1 in
-    rw (p.1, p.2) (initial-faulty c.requires.2 _ c.sort.ensures _ c.type_named-wants.ensures _ _ c.constant.ensures _ c.in_err-v.was, tt)
+    rw (p.1, p.2) (initial-faulty c.requires.2 _ c.sort.ensures _ c.type_named-wants.ensures _ _ c.constant.ensures _ c.in_err-v.was, tt, refl)
 
 pub known-filled-requires : goal.known-filled-requires
 known-filled-requires c =
@@ -32,4 +33,4 @@ overflow_add-result c =
 pub returns : goal.returns
 returns c =
     let made = c.known-filled.ensures in
-    (initial-goes c.requires.2 _ c.sort.ensures _ c.type_named-wants.ensures _ _ c.constant.ensures _ _ c.in_ok-v.was _ _ _ _ made.makes _ _ c.word_of.ensures c.held.ensures c.start.ensures _ (made-used made), made-grown made)
+    (initial-goes c.requires.2 _ c.sort.ensures _ c.type_named-wants.ensures _ _ c.constant.ensures _ _ c.in_ok-v.was _ _ _ _ made.makes _ _ c.word_of.ensures c.held.ensures c.start.ensures _ (made-used made), made-grown made, tt)

@@ -21,3 +21,6 @@ returns-then-sort-ne-BECOMES c = search (rules, scalar-plain, made-used, made-gr
 pub initial-requires : goal.initial-requires
 initial-requires c =
     (search rules, search rules, record { kind-is = c.scalar_kind-kind.ensures ∙ ap scalar_kind c.sort.ensures; becomes-is = search rules; fits = search rules })
+
+pub returns : goal.returns
+returns c = (c.initial.ensures.0, c.initial.ensures.1)

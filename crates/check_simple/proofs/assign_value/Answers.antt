@@ -7,8 +7,8 @@ use Rattle.check_simple.proofs.assign_value.Goals as goal
 pub overflow_add-b : goal.overflow_add-b
 overflow_add-b c = omega (arith, value-small)
 
-pub of_type-requires : goal.of_type-requires
-of_type-requires c = search (rules, value-stands)
+pub typed-requires : goal.typed-requires
+typed-requires c = search (rules, value-stands)
 
 pub returns-in_err-end : goal.returns-in_err-end
 returns-in_err-end c =
@@ -18,14 +18,14 @@ returns-in_err-end c =
 
 pub set_link-requires : goal.set_link-requires
 set_link-requires c =
-    let x = value-end _ _ _ _ _ c.requires _ _ c.of_type.ensures _ _ c.in_ok-end.was in (x.1, omega (arith, x.0))
+    let x = value-end _ _ _ _ _ c.requires _ _ c.typed.ensures _ _ c.in_ok-end.was in (x.1, omega (arith, x.0))
 
 pub overflow_add-end : goal.overflow_add-end
 overflow_add-end c = let w = c.in_ok-end.was in search (rules, value-fits)
 
 pub set_link-requires-2 : goal.set_link-requires-2
 set_link-requires-2 c =
-    let x = value-end _ _ _ _ _ c.requires _ _ c.of_type.ensures _ _ c.in_ok-end.was in
+    let x = value-end _ _ _ _ _ c.requires _ _ c.typed.ensures _ _ c.in_ok-end.was in
     (omega (arith, x.2, c.set_link.ensures.kept.long), omega (arith, x.0))
 
 pub overflow_add-result : goal.overflow_add-result
@@ -33,5 +33,5 @@ overflow_add-result c = let w = c.in_ok-end.was in search (rules, value-fits)
 
 pub returns : goal.returns
 returns c =
-    assigned-typed _ _ _ _ _ _ _ c.of_type.ensures _ _ c.in_ok-end.was _ c.set_link.ensures _
+    assigned-typed _ _ _ _ _ _ _ c.typed.ensures _ _ c.in_ok-end.was _ c.set_link.ensures _
     c.set_link-2.ensures

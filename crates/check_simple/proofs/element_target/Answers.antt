@@ -11,8 +11,8 @@ returns-then-kind-ne-ARRAY c = search (rules, element-no-array)
 pub overflow_add-at : goal.overflow_add-at
 overflow_add-at c = omega (arith, element-small)
 
-pub of_type-requires : goal.of_type-requires
-of_type-requires c = search (rules, index-stands)
+pub typed-requires : goal.typed-requires
+typed-requires c = search (rules, index-stands)
 
 pub returns-in_err-end : goal.returns-in_err-end
 returns-in_err-end c =
@@ -22,14 +22,14 @@ returns-in_err-end c =
 
 pub set_head-requires : goal.set_head-requires
 set_head-requires c =
-    let x = (index-end _ _ _ _ c.requires _ _ c.of_type.ensures _ _ c.in_ok-end.was).1 in search rules
+    let x = (index-end _ _ _ _ c.requires _ _ c.typed.ensures _ _ c.in_ok-end.was).1 in search rules
 
 pub overflow_add-at-2 : goal.overflow_add-at-2
 overflow_add-at-2 c = omega (arith, element-small)
 
 pub set_link-requires : goal.set_link-requires
 set_link-requires c =
-    let x = index-end _ _ _ _ c.requires _ _ c.of_type.ensures _ _ c.in_ok-end.was in
+    let x = index-end _ _ _ _ c.requires _ _ c.typed.ensures _ _ c.in_ok-end.was in
     (omega (arith, x.2, c.set_head.ensures.kept.long), omega (arith, x.0))
 
 pub overflow_add-result : goal.overflow_add-result

@@ -5,8 +5,8 @@ use Rattle.std.proofs.lemmas.Result.{err_from_is_err_and}
 use Rattle.check_simple.proofs.Expressions.{values-stands, values-room, values-end, valued-faulty, valued-typed}
 use Rattle.check_simple.proofs.with_value.Goals as goal
 
-pub of_type-requires : goal.of_type-requires
-of_type-requires c = search (rules, values-stands)
+pub typed-requires : goal.typed-requires
+typed-requires c = search (rules, values-stands)
 
 pub returns-in_err-end : goal.returns-in_err-end
 returns-in_err-end c =
@@ -16,20 +16,20 @@ returns-in_err-end c =
 
 pub overflow_cast-end : goal.overflow_cast-end
 overflow_cast-end c =
-    omega (arith, values-end _ _ _ _ c.requires.0 _ _ _ refl _ c.of_type.ensures _ _ c.in_ok-end.was)
+    omega (arith, values-end _ _ _ _ c.requires.0 _ _ _ refl _ c.typed.ensures _ _ c.in_ok-end.was)
 
 pub overflow_add-end : goal.overflow_add-end
 overflow_add-end c =
-    omega (arith, values-end _ _ _ _ c.requires.0 _ _ _ refl _ c.of_type.ensures _ _ c.in_ok-end.was)
+    omega (arith, values-end _ _ _ _ c.requires.0 _ _ _ refl _ c.typed.ensures _ _ c.in_ok-end.was)
 
 pub set_word-requires : goal.set_word-requires
 set_word-requires c =
-    let z = values-end _ _ _ _ c.requires.0 _ _ _ refl _ c.of_type.ensures _ _ c.in_ok-end.was in let y = values-room _ _ _ _
-    c.requires.0 _ _ _ refl _ c.of_type.ensures in search rules
+    let z = values-end _ _ _ _ c.requires.0 _ _ _ refl _ c.typed.ensures _ _ c.in_ok-end.was in let y = values-room _ _ _ _
+    c.requires.0 _ _ _ refl _ c.typed.ensures in search rules
 
 pub overflow_add-result : goal.overflow_add-result
 overflow_add-result c =
-    omega (arith, values-end _ _ _ _ c.requires.0 _ _ _ refl _ c.of_type.ensures _ _ c.in_ok-end.was)
+    omega (arith, values-end _ _ _ _ c.requires.0 _ _ _ refl _ c.typed.ensures _ _ c.in_ok-end.was)
 
 pub returns : goal.returns
-returns c = valued-typed _ _ _ _ _ _ _ _ _ c.of_type.ensures _ _ c.in_ok-end.was c.set_word.ensures
+returns c = valued-typed _ _ _ _ _ _ _ _ _ c.typed.ensures _ _ c.in_ok-end.was c.set_word.ensures

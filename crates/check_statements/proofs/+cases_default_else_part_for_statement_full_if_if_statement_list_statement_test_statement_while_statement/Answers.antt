@@ -475,8 +475,8 @@ pub full_if-overflow_add-e : goal.full_if-overflow_add-e
 full_if-overflow_add-e t c =
     omega (arith, arm-closes _ _ _ _ _ _ _ _ _ _ _ _ _ c.loop-e.invariant.0 c.requires.0 _ _ _ c.list.ensures.0 _ _ c.in_ok-e.was)
 
-pub full_if-of_type-requires : goal.full_if-of_type-requires
-full_if-of_type-requires t c =
+pub full_if-typed-requires : goal.full_if-typed-requires
+full_if-typed-requires t c =
     arm-condition _ _ _ _ _ _ _ _ _ _ _ _ _ c.loop-e.invariant.0 c.requires.0 _ _ _ c.list.ensures.0 _ _ c.in_ok-e.was _
     c.arm_end.ensures _ c.sort.ensures c.if-sort-ne-ELSEIF.false
 
@@ -497,19 +497,19 @@ full_if-returns-in_err-m t c =
     let p = err_from_is_err_and c.from_residual-in_err-m.result c.from_residual-in_err-m.ensures.1 in
     rw (p.1, p.2) (
       arm-wrong _ _ _ _ _ _ _ _ _ _ _ _ _ c.loop-e.invariant.0 _ _ _ c.list.ensures.0 _ _ c.in_ok-e.was _ c.arm_end.ensures _
-          c.sort.ensures c.if-sort-ne-ELSEIF.false _ _ c.of_type.ensures _ c.in_err-m.was,
+          c.sort.ensures c.if-sort-ne-ELSEIF.false _ _ c.typed.ensures _ c.in_err-m.was,
       tt,
     )
 
 pub full_if-loop-e-smaller : goal.full_if-loop-e-smaller
 full_if-loop-e-smaller t c =
     arm-less _ _ _ _ _ _ _ _ _ _ _ _ _ c.loop-e.invariant.0 c.requires.0 _ _ _ c.list.ensures.0 _ _ c.in_ok-e.was _
-    c.arm_end.ensures _ c.sort.ensures c.if-sort-ne-ELSEIF.false _ _ c.of_type.ensures _ _ c.in_ok-m.was
+    c.arm_end.ensures _ c.sort.ensures c.if-sort-ne-ELSEIF.false _ _ c.typed.ensures _ _ c.in_ok-m.was
 
 pub full_if-loop-e-preserved : goal.full_if-loop-e-preserved
 full_if-loop-e-preserved t c = (
   arms-go _ _ _ _ _ _ _ _ _ _ _ _ _ c.loop-e.invariant.0 _ _ _ c.list.ensures.0 _ _ c.in_ok-e.was _ c.arm_end.ensures _
-      c.sort.ensures c.if-sort-ne-ELSEIF.false _ _ c.of_type.ensures _ _ c.in_ok-m.was,
+      c.sort.ensures c.if-sort-ne-ELSEIF.false _ _ c.typed.ensures _ _ c.in_ok-m.was,
   grown-on c.loop-e.invariant.1 (grown-upto _ _ c.list.ensures.1 _ _ c.in_ok-e.was),
 )
 
@@ -517,21 +517,21 @@ pub if_statement-overflow_add-i : goal.if_statement-overflow_add-i
 if_statement-overflow_add-i t c =
     omega (arith, stands-early _ _ _ _ _ _ c.requires.0.stands)
 
-pub if_statement-of_type-requires : goal.if_statement-of_type-requires
-if_statement-of_type-requires t c = search (rules, if-condition)
+pub if_statement-typed-requires : goal.if_statement-typed-requires
+if_statement-typed-requires t c = search (rules, if-condition)
 
 pub if_statement-sort-requires : goal.if_statement-sort-requires
 if_statement-sort-requires t c =
-    (if-room _ _ _ _ _ _ c.requires.0 _ _ c.of_type.ensures _ _ c.in_ok-t.was).1
+    (if-room _ _ _ _ _ _ c.requires.0 _ _ c.typed.ensures _ _ c.in_ok-t.was).1
 
 pub if_statement-compact_if-requires : goal.if_statement-compact_if-requires
 if_statement-compact_if-requires t c =
-    if-compacts _ _ _ _ _ _ c.requires.0 _ _ c.of_type.ensures _ _ c.in_ok-t.was _ c.sort.ensures
+    if-compacts _ _ _ _ _ _ c.requires.0 _ _ c.typed.ensures _ _ c.in_ok-t.was _ c.sort.ensures
     c.if-sort-ne-THEN.true
 
 pub if_statement-returns-then-sort-ne-THEN : goal.if_statement-returns-then-sort-ne-THEN
 if_statement-returns-then-sort-ne-THEN t c = (
-  if-compact _ _ _ _ _ _ _ _ c.of_type.ensures _ _ c.in_ok-t.was _ c.sort.ensures c.if-sort-ne-THEN.true _ _ c.compact_if.ensures.0,
+  if-compact _ _ _ _ _ _ _ _ c.typed.ensures _ _ c.in_ok-t.was _ c.sort.ensures c.if-sort-ne-THEN.true _ _ c.compact_if.ensures.0,
   c.compact_if.ensures.1,
 )
 
@@ -539,13 +539,13 @@ pub if_statement-full_if-requires : goal.if_statement-full_if-requires
 if_statement-full_if-requires t c = (
   omega (
     arith,
-    if-room _ _ _ _ _ _ c.requires.0 _ _ c.of_type.ensures _ _ c.in_ok-t.was,
+    if-room _ _ _ _ _ _ c.requires.0 _ _ c.typed.ensures _ _ c.in_ok-t.was,
     if-forward _ _ _ _ _ _ c.requires.0 _ _
-        c.of_type.ensures _ _ c.in_ok-t.was,
+        c.typed.ensures _ _ c.in_ok-t.was,
     c.decreases,
   ),
   (
-    if-thens _ _ _ _ _ _ c.requires.0 _ _ c.of_type.ensures _ _
+    if-thens _ _ _ _ _ _ c.requires.0 _ _ c.typed.ensures _ _
         c.in_ok-t.was _ c.sort.ensures c.if-sort-ne-THEN.false,
     c.requires.1,
   ),
@@ -554,11 +554,11 @@ if_statement-full_if-requires t c = (
 pub if_statement-returns-in_err-t : goal.if_statement-returns-in_err-t
 if_statement-returns-in_err-t t c =
     let p = err_from_is_err_and c.from_residual.result c.from_residual.ensures.1 in
-    rw (p.1, p.2) (if-wrong _ _ _ _ _ _ _ _ c.of_type.ensures _ c.in_err-t.was, tt)
+    rw (p.1, p.2) (if-wrong _ _ _ _ _ _ _ _ c.typed.ensures _ c.in_err-t.was, tt)
 
 pub if_statement-returns : goal.if_statement-returns
 if_statement-returns t c = (
-  if-full _ _ _ _ _ _ _ _ c.of_type.ensures _ _ c.in_ok-t.was _ c.sort.ensures c.if-sort-ne-THEN.false _ _ _
+  if-full _ _ _ _ _ _ _ _ c.typed.ensures _ _ c.in_ok-t.was _ c.sort.ensures c.if-sort-ne-THEN.false _ _ _
       c.full_if.ensures.0,
   c.full_if.ensures.1,
 )
@@ -668,14 +668,14 @@ pub test_statement-overflow_add-i : goal.test_statement-overflow_add-i
 test_statement-overflow_add-i t c =
     omega (arith, stands-early _ _ _ _ _ _ c.requires.0.stands)
 
-pub test_statement-of_type-requires : goal.test_statement-of_type-requires
-test_statement-of_type-requires t c = search (rules, test-selector)
+pub test_statement-typed-requires : goal.test_statement-typed-requires
+test_statement-typed-requires t c = search (rules, test-selector)
 
 pub test_statement-cases-requires : goal.test_statement-cases-requires
 test_statement-cases-requires t c = (
-  omega (arith, test-forward _ _ _ _ _ _ c.requires.0 _ _ c.of_type.ensures _ _ c.in_ok-c.was, c.decreases),
+  omega (arith, test-forward _ _ _ _ _ _ c.requires.0 _ _ c.typed.ensures _ _ c.in_ok-c.was, c.decreases),
   (
-    test-chooses _ _ _ _ _ _ c.requires.0 _ _ c.of_type.ensures _ _ c.in_ok-c.was,
+    test-chooses _ _ _ _ _ _ c.requires.0 _ _ c.typed.ensures _ _ c.in_ok-c.was,
     c.requires.1,
   ),
 )
@@ -683,26 +683,26 @@ test_statement-cases-requires t c = (
 pub test_statement-returns-in_err-z : goal.test_statement-returns-in_err-z
 test_statement-returns-in_err-z t c =
     let p = err_from_is_err_and c.from_residual-in_err-z.result c.from_residual-in_err-z.ensures.1 in
-    rw (p.1, p.2) (test-cases-wrong _ _ _ _ _ _ _ _ c.of_type.ensures _ _ c.in_ok-c.was _ _ _ c.cases.ensures.0 _ c.in_err-z.was, tt)
+    rw (p.1, p.2) (test-cases-wrong _ _ _ _ _ _ _ _ c.typed.ensures _ _ c.in_ok-c.was _ _ _ c.cases.ensures.0 _ c.in_err-z.was, tt)
 
 pub test_statement-overflow_cast-c : goal.test_statement-overflow_cast-c
 test_statement-overflow_cast-c t c =
-    omega (arith, test-forward _ _ _ _ _ _ c.requires.0 _ _ c.of_type.ensures _ _ c.in_ok-c.was)
+    omega (arith, test-forward _ _ _ _ _ _ c.requires.0 _ _ c.typed.ensures _ _ c.in_ok-c.was)
 
 pub test_statement-set_word-requires : goal.test_statement-set_word-requires
 test_statement-set_word-requires t c =
-    let z = test-room _ _ _ _ _ _ c.requires.0 _ _ c.of_type.ensures _ _ c.in_ok-c.was _ _ _ c.cases.ensures.0 _ _
-    c.in_ok-z.was in let y = test-forward _ _ _ _ _ _ c.requires.0 _ _ c.of_type.ensures _ _ c.in_ok-c.was in
+    let z = test-room _ _ _ _ _ _ c.requires.0 _ _ c.typed.ensures _ _ c.in_ok-c.was _ _ _ c.cases.ensures.0 _ _
+    c.in_ok-z.was in let y = test-forward _ _ _ _ _ _ c.requires.0 _ _ c.typed.ensures _ _ c.in_ok-c.was in
     (omega (arith, z), omega arith, omega (arith, y), omega (arith, z))
 
 pub test_statement-returns-in_err-c : goal.test_statement-returns-in_err-c
 test_statement-returns-in_err-c t c =
     let p = err_from_is_err_and c.from_residual.result c.from_residual.ensures.1 in
-    rw (p.1, p.2) (test-wrong _ _ _ _ _ _ _ _ c.of_type.ensures _ c.in_err-c.was, tt)
+    rw (p.1, p.2) (test-wrong _ _ _ _ _ _ _ _ c.typed.ensures _ c.in_err-c.was, tt)
 
 pub test_statement-returns : goal.test_statement-returns
 test_statement-returns t c = (
-  test-finished _ _ _ _ _ _ _ _ c.of_type.ensures _ _ c.in_ok-c.was _ _ _ c.cases.ensures.0 _ _ c.in_ok-z.was _
+  test-finished _ _ _ _ _ _ _ _ c.typed.ensures _ _ c.in_ok-c.was _ _ _ c.cases.ensures.0 _ _ c.in_ok-z.was _
       c.set_word.ensures,
   grown-upto _ _ c.cases.ensures.1 _ _ c.in_ok-z.was,
 )
@@ -711,18 +711,18 @@ pub while_statement-overflow_add-i : goal.while_statement-overflow_add-i
 while_statement-overflow_add-i t c =
     omega (arith, stands-early _ _ _ _ _ _ c.requires.0.stands)
 
-pub while_statement-of_type-requires : goal.while_statement-of_type-requires
-while_statement-of_type-requires t c = search (rules, while-condition)
+pub while_statement-typed-requires : goal.while_statement-typed-requires
+while_statement-typed-requires t c = search (rules, while-condition)
 
 pub while_statement-overflow_add-d : goal.while_statement-overflow_add-d
 while_statement-overflow_add-d t c =
-    omega (arith, while-forward _ _ _ _ _ _ c.requires.0 _ _ c.of_type.ensures _ _ c.in_ok-d.was)
+    omega (arith, while-forward _ _ _ _ _ _ c.requires.0 _ _ c.typed.ensures _ _ c.in_ok-d.was)
 
 pub while_statement-list-requires : goal.while_statement-list-requires
 while_statement-list-requires t c = (
-  omega (arith, while-forward _ _ _ _ _ _ c.requires.0 _ _ c.of_type.ensures _ _ c.in_ok-d.was, c.decreases),
+  omega (arith, while-forward _ _ _ _ _ _ c.requires.0 _ _ c.typed.ensures _ _ c.in_ok-d.was, c.decreases),
   (
-    while-lists _ _ _ _ _ _ c.requires.0 _ _ c.of_type.ensures _ _ c.in_ok-d.was,
+    while-lists _ _ _ _ _ _ c.requires.0 _ _ c.typed.ensures _ _ c.in_ok-d.was,
     c.requires.1,
   ),
 )
@@ -730,28 +730,28 @@ while_statement-list-requires t c = (
 pub while_statement-returns-in_err-e : goal.while_statement-returns-in_err-e
 while_statement-returns-in_err-e t c =
     let p = err_from_is_err_and c.from_residual-in_err-e.result c.from_residual-in_err-e.ensures.1 in
-    rw (p.1, p.2) (while-list-wrong _ _ _ _ _ _ _ _ c.of_type.ensures _ _ c.in_ok-d.was _ _ _ c.list.ensures.0 _ c.in_err-e.was, tt)
+    rw (p.1, p.2) (while-list-wrong _ _ _ _ _ _ _ _ c.typed.ensures _ _ c.in_ok-d.was _ _ _ c.list.ensures.0 _ c.in_err-e.was, tt)
 
 pub while_statement-while_end-requires : goal.while_statement-while_end-requires
 while_statement-while_end-requires t c =
-    while-closes _ _ _ _ _ _ c.requires.0 _ _ c.of_type.ensures _ _ c.in_ok-d.was _ _ _ c.list.ensures.0 _ _
+    while-closes _ _ _ _ _ _ c.requires.0 _ _ c.typed.ensures _ _ c.in_ok-d.was _ _ _ c.list.ensures.0 _ _
     c.in_ok-e.was
 
 pub while_statement-overflow_add-result : goal.while_statement-overflow_add-result
 while_statement-overflow_add-result t c =
     omega (
       arith,
-      while-closes _ _ _ _ _ _ c.requires.0 _ _ c.of_type.ensures _ _ c.in_ok-d.was _ _ _ c.list.ensures.0 _ _
+      while-closes _ _ _ _ _ _ c.requires.0 _ _ c.typed.ensures _ _ c.in_ok-d.was _ _ _ c.list.ensures.0 _ _
           c.in_ok-e.was,
     )
 
 pub while_statement-returns-in_err-d : goal.while_statement-returns-in_err-d
 while_statement-returns-in_err-d t c =
     let p = err_from_is_err_and c.from_residual.result c.from_residual.ensures.1 in
-    rw (p.1, p.2) (while-wrong _ _ _ _ _ _ _ _ c.of_type.ensures _ c.in_err-d.was, tt)
+    rw (p.1, p.2) (while-wrong _ _ _ _ _ _ _ _ c.typed.ensures _ c.in_err-d.was, tt)
 
 pub while_statement-returns : goal.while_statement-returns
 while_statement-returns t c = (
-  while-finished _ _ _ _ _ _ _ _ c.of_type.ensures _ _ c.in_ok-d.was _ _ _ c.list.ensures.0 _ _ c.in_ok-e.was _ c.while_end.ensures,
+  while-finished _ _ _ _ _ _ _ _ c.typed.ensures _ _ c.in_ok-d.was _ _ _ c.list.ensures.0 _ _ c.in_ok-e.was _ c.while_end.ensures,
   grown-upto _ _ c.list.ensures.1 _ _ c.in_ok-e.was,
 )
